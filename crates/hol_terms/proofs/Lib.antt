@@ -1,0 +1,14 @@
+pub mod DerivableLemmas
+pub mod DerivedFormulas
+pub mod FormulaLemmas
+pub mod KeepsLemmas
+pub mod MemoLemmas
+pub mod OpenLemmas
+pub mod ReachLemmas
+pub mod SetLemmas
+pub mod SubstitutionLemmas
+pub mod TermEqLemmas
+pub mod TermLemmas
+pub mod Cases
+pub mod UnchangedTypes
+pub mod QuantifierRules

@@ -1,0 +1,23 @@
+use Rattle.hol_types.proofs.TypeLemmas.{type_tree-injective}
+use Rattle.hol_terms.specs.TermStore.{joined}
+use Rattle.hol_terms.specs.contracts.tables.TermTables.{the_view}
+use Rattle.hol_terms.proofs.TermLemmas.{GrowsTo-types, IsTermStore-types, Keeps-from_grows}
+use Rattle.hol_terms.proofs.type_tables.intern_type_in.Goals as goal
+
+pub returns-clause-lawful : goal.returns-clause-lawful
+returns-clause-lawful c =
+    let is = rw (← c.base.view_is, ← c.own.view_is) at c.requires.lawful in
+    rw (← c.base.view_is) (IsTermStore-types (joined (the_view c.base.inside) (the_view c.own.inside)) is _ c.intern_in.ensures.lawful c.intern_in.ensures.keeps)
+
+pub returns-clause-keeps : goal.returns-clause-keeps
+returns-clause-keeps c =
+    let is = rw (← c.base.view_is, ← c.own.view_is) at c.requires.lawful in
+    rw (← c.base.view_is, ← c.own.view_is) (Keeps-from_grows _ _ is.shape (GrowsTo-types (joined (the_view c.base.inside) (the_view c.own.inside)) is _ c.intern_in.ensures.lawful c.intern_in.ensures.keeps))
+
+pub returns-clause-grows : goal.returns-clause-grows
+returns-clause-grows c =
+    let is = rw (← c.base.view_is, ← c.own.view_is) at c.requires.lawful in
+    rw (← c.base.view_is, ← c.own.view_is) (GrowsTo-types (joined (the_view c.base.inside) (the_view c.own.inside)) is _ c.intern_in.ensures.lawful c.intern_in.ensures.keeps)
+
+pub returns-clause-apart : goal.returns-clause-apart
+returns-clause-apart c = rw (← c.base.view_is) (type_tree-injective _ c.intern_in.ensures.lawful)

@@ -1,0 +1,12 @@
+pub mod BuiltIn
+pub mod Constants
+pub mod Derivable
+pub mod Exact
+pub mod Formula
+pub mod IntAxiom
+pub mod Memo
+pub mod Reach
+pub mod Substitution
+pub mod Term
+pub mod TermEq
+pub mod TermStore

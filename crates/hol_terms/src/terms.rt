@@ -1,0 +1,182 @@
+//! What keeps terms, however it is kept.
+ghost use Rattle.std.specs.Prelude.{◌≡◌, ℕ, ◌↔◌, IsTrue, IfOk, OnOk, IfErr, Some, None};
+ghost use Rattle.hol_types.specs.TypeStore.{HasName, HasType, HasArity, HasTypeParts, NamesApart, TreesApart, arity_of, text_of, type_tree};
+ghost use Rattle.hol_types.specs.TypeStore as types;
+ghost use Rattle.hol_types.specs.TypeSubst.{HasSubst, subst_tree, instance_of};
+ghost use Rattle.hol_terms.specs.Term.{BoundsFit, Typed, ty_of};
+ghost use Rattle.hol_terms.specs.Reach.{reach_of};
+ghost use Rattle.hol_terms.specs.Substitution.{close_free, subst_bound, subst_types, IsClosed};
+ghost use Rattle.hol_terms.specs.TermStore.{TermStore, Keeps, TermsApart, term_tree, tree_of, HasTerm, HasParts, PartsBelow};
+
+use crate::close::close_part;
+use crate::instantiate::instantiate_part;
+use crate::memo::Part;
+use crate::node::{Node, TermId};
+use crate::open::open_part;
+use crate::typed::TermFault;
+use hol_types::{NameId, Subst, TypeFault, TypeId, TypeNode};
+use std::alloc::{AllocError, Global};
+use std::collections::HashMap;
+
+/// A store of names, types and terms, each kept once. A number stands for a text or a tree, two numbers are equal
+/// exactly where these are, and no call changes what a number stands for. Where a call that may add answers that there is
+/// no memory, names, types and terms that it made on the way may remain.
+pub trait Terms {
+    /// What it holds beside names, types and terms.
+    type Rest;
+
+    /// The names, types and terms that it holds.
+    ghost store: { Self → TermStore };
+
+    /// What it holds beside them. No call of this trait changes it.
+    ghost rest: { Self → Self.Rest };
+
+    /// Where its memory comes from.
+    fn allocator(&self) -> Global;
+
+    /// The number of a name, given its bytes. It is added where it is new.
+    fn name(&mut self, text: &[u8]) -> Result<NameId, AllocError>
+        ensures there { IfOk result (λ n. HasName (store self.new).types n) }
+        ensures text { IfOk result (λ n. text_of (store self.new).types n ≡ text.now) }
+        ensures names_apart { NamesApart (store self.new).types }
+        ensures keeps { Keeps (store self.old) (store self.new) }
+        ensures rest { rest self.new ≡ rest self.old };
+
+    /// The bytes of a name.
+    fn text(&self, n: NameId) -> &[u8]
+        requires { HasName (store self.now).types n }
+        ensures text { text_of (store self.now).types n ≡ result.now }
+        ensures names_apart { NamesApart (store self.now).types };
+
+    /// Declares a type constructor with so many arguments. False exactly where its name is declared already.
+    fn declare(&mut self, n: NameId, arity: u32) -> Result<bool, AllocError>
+        ensures fresh { IfOk result (λ fresh. IsTrue fresh ↔ (arity_of (store self.old).types n ≡ None)) }
+        ensures arity { IfOk result (λ fresh. IsTrue fresh → arity_of (store self.new).types n ≡ Some arity) }
+        ensures others { (m : ℕ) → (m ≡ n → ⊥) → arity_of (store self.new).types m ≡ arity_of (store self.old).types m }
+        ensures keeps { Keeps (store self.old) (store self.new) }
+        ensures rest { rest self.new ≡ rest self.old };
+
+    /// The number of a type, given by the numbers of its parts. It is added where it is new.
+    /// Arity exactly where a constructor isn't declared with this number of arguments.
+    fn intern_type(&mut self, node: TypeNode) -> Result<TypeId, TypeFault>
+        requires { HasTypeParts (store self.old).types node }
+        ensures there { IfOk result (λ t. HasType (store self.new).types t) }
+        ensures tree { IfOk result (λ t. type_tree (store self.new).types t ≡ types.tree_of (store self.old).types node) }
+        ensures has_arity { OnOk result (HasArity (store self.old).types node) }
+        ensures arity { IfErr result (λ e. e ≡ TypeFault.Arity → HasArity (store self.old).types node → ⊥) }
+        ensures types_apart { TreesApart (store self.new).types }
+        ensures keeps { Keeps (store self.old) (store self.new) }
+        ensures rest { rest self.new ≡ rest self.old };
+
+    /// A type by the numbers of its parts.
+    fn type_node(&self, t: TypeId) -> &TypeNode
+        requires { HasType (store self.now).types t }
+        ensures tree { type_tree (store self.now).types t ≡ types.tree_of (store self.now).types result.now }
+        ensures parts { types.PartsBelow (store self.now).types t result.now }
+        ensures has_arity { HasArity (store self.now).types result.now }
+        ensures types_apart { TreesApart (store self.now).types };
+
+    /// The type with the given types for its variables.
+    fn instance(&mut self, t: TypeId, s: &Subst) -> Result<TypeId, AllocError>
+        requires there { HasType (store self.old).types t }
+        requires subst { HasSubst (store self.old).types s.now }
+        ensures there { IfOk result (λ r. HasType (store self.new).types r) }
+        ensures tree { IfOk result (λ r. type_tree (store self.new).types r ≡ instance_of (subst_tree (store self.old).types s.now) (type_tree (store self.old).types t)) }
+        ensures keeps { Keeps (store self.old) (store self.new) }
+        ensures rest { rest self.new ≡ rest self.old };
+
+    /// The number of a term, given by the numbers of its parts. It is added where it is new.
+    /// Ill exactly where it isn't typed: an application doesn't fit, a Bound doesn't have its binder's type, or a number
+    /// isn't below 2^127 in absolute value.
+    fn intern(&mut self, node: Node) -> Result<TermId, TermFault>
+        requires { HasParts (store self.old) node }
+        ensures there { IfOk result (λ t. HasTerm (store self.new) t) }
+        ensures tree { IfOk result (λ t. term_tree (store self.new) t ≡ tree_of (store self.old) node) }
+        ensures typed { OnOk result (Typed (tree_of (store self.old) node)) }
+        ensures ill { IfErr result (λ e. e ≡ TermFault.Ill → Typed (tree_of (store self.old) node) → ⊥) }
+        ensures apart { TermsApart (store self.new) }
+        ensures keeps { Keeps (store self.old) (store self.new) }
+        ensures rest { rest self.new ≡ rest self.old };
+
+    /// A term by the numbers of its parts, which are smaller.
+    fn node(&self, t: TermId) -> Node
+        requires { HasTerm (store self.now) t }
+        ensures tree { term_tree (store self.now) t ≡ tree_of (store self.now) result }
+        ensures parts { PartsBelow (store self.now) t result }
+        ensures typed { Typed (term_tree (store self.now) t) }
+        ensures apart { TermsApart (store self.now) };
+
+    /// The type of a term.
+    fn ty(&self, t: TermId) -> TypeId
+        requires { HasTerm (store self.now) t }
+        ensures there { HasType (store self.now).types result }
+        ensures ty { type_tree (store self.now).types result ≡ ty_of (term_tree (store self.now) t) }
+        ensures typed { Typed (term_tree (store self.now) t) }
+        ensures types_apart { TreesApart (store self.now).types };
+
+    /// The number that each loose Bound of a term is below: 0 for a closed term.
+    fn reach(&self, t: TermId) -> u32
+        requires { HasTerm (store self.now) t }
+        ensures { result ≡ reach_of (term_tree (store self.now) t) };
+
+    /// Whether a term has no loose Bound.
+    final fn is_closed(&self, t: TermId) -> bool
+        requires { HasTerm (store self.now) t }
+        ensures { IsTrue result ↔ IsClosed (term_tree (store self.now) t) }
+    {
+        self.reach(t) == 0
+    }
+
+    /// The term with the given types for its type variables. It takes one step for each distinct part.
+    final fn instantiate(&mut self, t: TermId, s: &Subst) -> Result<TermId, AllocError>
+        requires term { HasTerm (store self.old) t }
+        requires subst { HasSubst (store self.old).types s.now }
+        ensures there { IfOk result (λ r. HasTerm (store self.new) r) }
+        ensures tree { IfOk result (λ r. term_tree (store self.new) r ≡ subst_types (subst_tree (store self.old).types s.now) (term_tree (store self.old) t)) }
+        ensures keeps { Keeps (store self.old) (store self.new) }
+        ensures rest { rest self.new ≡ rest self.old }
+    {
+        let mut memo = HashMap::new(self.allocator());
+        let r = instantiate_part(self, &mut memo, t, s)?;
+        Ok(r)
+    }
+
+    /// The body of a lambda with u for its bound variable, which has u's type; u has no loose Bound. It takes one step
+    /// for each distinct part of the body, and each number of binders around it, that the variable stands in.
+    final fn open(&mut self, body: TermId, u: TermId) -> Result<TermId, AllocError>
+        requires body { HasTerm (store self.old) body }
+        requires new { HasTerm (store self.old) u }
+        requires closed { IsClosed (term_tree (store self.old) u) }
+        requires fits { BoundsFit (term_tree (store self.old) body) 0 (ty_of (term_tree (store self.old) u)) }
+        ensures there { IfOk result (λ r. HasTerm (store self.new) r) }
+        ensures tree { IfOk result (λ r. term_tree (store self.new) r ≡ subst_bound (term_tree (store self.old) body) 0 (term_tree (store self.old) u)) }
+        ensures keeps { Keeps (store self.old) (store self.new) }
+        ensures rest { rest self.new ≡ rest self.old }
+    {
+        let _typed = self.ty(u);
+        let mut memo = HashMap::new(self.allocator());
+        let part = Part {
+            term: body,
+            index: 0,
+        };
+        let r = open_part(self, &mut memo, part, u)?;
+        Ok(r)
+    }
+
+    /// The body whose Bound 0 was the free variable v. It takes one step for each distinct part of the term and each
+    /// number of binders around it.
+    final fn close(&mut self, t: TermId, v: TermId) -> Result<TermId, AllocError>
+        requires term { HasTerm (store self.old) t }
+        requires variable { HasTerm (store self.old) v }
+        ensures there { IfOk result (λ r. HasTerm (store self.new) r) }
+        ensures tree { IfOk result (λ r. term_tree (store self.new) r ≡ close_free (term_tree (store self.old) t) 0 (term_tree (store self.old) v)) }
+        ensures fits { IfOk result (λ r. IsClosed (term_tree (store self.old) t) → BoundsFit (term_tree (store self.new) r) 0 (ty_of (term_tree (store self.old) v))) }
+        ensures keeps { Keeps (store self.old) (store self.new) }
+        ensures rest { rest self.new ≡ rest self.old }
+    {
+        let mut memo = HashMap::new(self.allocator());
+        let part = Part { term: t, index: 0 };
+        let r = close_part(self, &mut memo, part, v)?;
+        Ok(r)
+    }
+}

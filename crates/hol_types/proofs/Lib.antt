@@ -1,0 +1,8 @@
+pub mod OnceLemmas
+pub mod Places
+pub mod TypeLemmas
+pub mod MarkLemmas
+pub mod KeepsLemmas
+pub mod InstanceLemmas
+pub mod TyEqLemmas
+mod TypeExamples

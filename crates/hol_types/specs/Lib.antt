@@ -1,0 +1,10 @@
+pub mod Exact
+pub mod Once
+pub mod Ty
+pub mod TyEq
+pub mod TypeStore
+pub mod TypeSubst
+pub mod Instance
+pub mod TypeMark
+pub mod KeepsTypes
+pub mod Roomy

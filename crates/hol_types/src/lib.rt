@@ -1,0 +1,26 @@
+//! Types of simple type theory, each kept once.
+#![tactic(auto)]
+
+mod file_name;
+mod instance;
+mod layer;
+mod list;
+mod node;
+mod room;
+mod send;
+mod table;
+mod tables;
+mod types;
+
+pub use file_name::FileName;
+pub use instance::{Subst, instance_in};
+pub use layer::{find_bytes_in, find_in, item_in, number, number_in, number_of_bytes};
+pub use list::{Bytes, List};
+pub use node::{NameId, TypeId, TypeNode};
+pub use room::Room;
+pub use table::{Exact, Table};
+pub use tables::{
+    TypeFault, TypeMark, TypeTables, arity_in, declare_in, intern_in, mark_in, name_in, node_in,
+    reset_in, text_in,
+};
+pub use types::Types;

@@ -1,0 +1,6 @@
+pub mod IdLemmas
+pub mod MergeLemmas
+pub mod KeepLemmas
+pub mod HypLemmas
+pub mod RuleLemmas
+pub mod KernelRules

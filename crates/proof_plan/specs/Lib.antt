@@ -1,0 +1,12 @@
+pub mod Accept
+pub mod Claims
+pub mod IsPlan
+pub mod OpenHypotheses
+pub mod PlainReplay
+pub mod PlanValue
+pub mod Rows
+pub mod Rules
+pub mod States
+pub mod Tasks
+pub mod Weights
+pub mod WhyText

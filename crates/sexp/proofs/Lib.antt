@@ -1,0 +1,11 @@
+pub mod TextLemmas
+pub mod LexingLemmas
+pub mod DepthLemmas
+pub mod ReadingLemmas
+pub mod TokensLemmas
+pub mod RecordLemmas
+pub mod TextsLemmas
+pub mod ForestLemmas
+pub mod SpanLemmas
+pub mod TreeLemmas
+pub mod GrowLemmas

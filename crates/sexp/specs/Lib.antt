@@ -1,0 +1,13 @@
+pub mod Bytes
+pub mod Text
+pub mod Lexing
+pub mod Nesting
+pub mod Depth
+pub mod Reading
+pub mod Tokens
+pub mod Tree
+pub mod Forest
+pub mod Records
+pub mod TextTrees
+pub mod Spans
+pub mod Texts
