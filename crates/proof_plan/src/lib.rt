@@ -24,6 +24,3 @@ pub use state::{ReplayFault, State};
 pub use step::Task;
 pub use weight::Weight;
 pub use why::{Why, append_why};
-
-#[cfg(test)]
-mod tests;
