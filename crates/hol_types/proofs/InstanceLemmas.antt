@@ -1,9 +1,8 @@
 -- What instances need of a store that goes on.
-use Rattle.std.proofs.Common.{◌≡◌, ℕ, ◌<◌, ◌≤◌, get_or, List, [], ◌∷◌, ◌++◌, length, Option, Some, None, cond, Bool as Truth, true, false, refl, sym, ap, ◌∙◌, subst, arith, unwrap_or, option_map, length-append, zero, suc, bytes_eq}
+use Rattle.std.proofs.Common.{◌≡◌, ℕ, ◌<◌, get_or, List, [], ◌∷◌, ◌++◌, length, Some, None, cond, Bool as Truth, true, false, refl, sym, ap, ◌∙◌, subst, arith, unwrap_or, option_map, length-append, zero, suc, bytes_eq}
 use Rattle.std.specs.List.{AllByRecursion}
 use Rattle.std.specs.Map.{lookup}
 use Rattle.std.proofs.Math.Dec.{eqb}
-use Rattle.std.proofs.lemmas.Bool.{eqb-true, eq-eqb}
 use Rattle.std.proofs.lemmas.Bool.Decides.{same_from_decides, Decides-eqb}
 use Rattle.std.proofs.lemmas.Slice.Eq.{bytes_eq-Decides}
 use Rattle.std.proofs.lemmas.Option.{none-some, same_Some}
@@ -13,7 +12,6 @@ use Rattle.hol_types.specs.KeepsTypes.{KeepsTypes}
 use Rattle.hol_types.specs.TypeSubst.{TypeSubst, HasSubst, subst_tree, type_for, instance_of, instances_of}
 use Rattle.hol_types.specs.Instance.{AreInstances}
 use Rattle.hol_types.proofs.TypeLemmas.{names_apart}
-use Rattle.hol_types.proofs.KeepsLemmas.{keeps_types_trans}
 
 -- a substitution stays, and stands for what it stood for
 pub has_subst_kept : (s u : TypeStore) → KeepsTypes s u → (ps : List (ℕ × ℕ)) → HasSubst s ps → HasSubst u ps

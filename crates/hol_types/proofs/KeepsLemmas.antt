@@ -1,5 +1,5 @@
 -- A store that goes on.
-use Rattle.std.proofs.Common.{◌≡◌, ℕ, [], refl, ◌∙◌}
+use Rattle.std.proofs.Common.{[], refl, ◌∙◌}
 use Rattle.hol_types.specs.TypeStore.{TypeStore, IsTypeStore, Grows}
 use Rattle.hol_types.specs.KeepsTypes.{KeepsTypes}
 use Rattle.hol_types.proofs.TypeLemmas.{type_tree-grows, Holds-length, Holds-get_or, arity_of-grows}

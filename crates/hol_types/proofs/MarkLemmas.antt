@@ -1,10 +1,10 @@
 -- What is left where the later items are taken away.
-use Rattle.std.proofs.Common.{◌≡◌, ℕ, zero, suc, ◌+◌, ◌-◌, ◌<◌, ◌≤◌, List, [], ◌∷◌, ◌++◌, length, take, slice_get, Some, refl, sym, ap, ◌∙◌, arith}
+use Rattle.std.proofs.Common.{◌≡◌, ℕ, zero, suc, ◌+◌, ◌-◌, ◌≤◌, List, [], ◌∷◌, ◌++◌, length, take, refl, sym, ap, ◌∙◌, arith}
 use Rattle.std.proofs.Math.Seq.{take-append-add}
 use Rattle.std.proofs.lemmas.List.{length-take, length-take-le}
-use Rattle.std.proofs.lemmas.Option.{same_Some, none-some, slice_get_within}
+use Rattle.std.proofs.lemmas.Option.{same_Some, none-some}
 use Rattle.hol_types.specs.Once.{Holds}
-use Rattle.hol_types.specs.TypeStore.{TypeStore, Grows, joined}
+use Rattle.hol_types.specs.TypeStore.{TypeStore, Grows}
 use Rattle.hol_types.specs.TypeMark.{mark_of, cut, FitsMark}
 use Rattle.hol_types.specs.declared.tables.TypeMark.{TypeMark as Mark}
 

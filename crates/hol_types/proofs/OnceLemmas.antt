@@ -1,5 +1,5 @@
 -- Lists without repeats, from the words of a set.
-use Rattle.std.proofs.Common.{◌≡◌, ℕ, ◌<◌, ◌≤◌, ◌⊎◌, List, length, get_or, slice_get, Some, None, true, false, Bool, IsTrue, refl, sym, ap, ◌∙◌, subst, inl, inr, true≢false, arith, is_some, MatchOption, Option, position, cond, [], ◌∷◌, ◌++◌}
+use Rattle.std.proofs.Common.{◌≡◌, ℕ, ◌<◌, ◌≤◌, ◌⊎◌, List, get_or, slice_get, Some, None, true, false, Bool, sym, ap, ◌∙◌, subst, inl, inr, true≢false, arith, is_some, MatchOption, Option, position, cond, [], ◌∷◌, ◌++◌}
 use Rattle.std.specs.List.{IsDistinct, list_any}
 use Rattle.std.specs.Cmp.{IsEquivalence}
 use Rattle.std.proofs.lemmas.Bool.{cases_lt}

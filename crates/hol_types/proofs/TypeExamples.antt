@@ -1,6 +1,6 @@
 -- Small cases of the definitions, worked by hand.
 use Rattle.std.specs.Prelude.{◌≡◌, ℕ, List, [], ◌∷◌, refl}
-use Rattle.hol_types.specs.Ty.{Ty, BoolTy, IntTy, VarTy, FunTy, ConsTy, no_types, more_types}
+use Rattle.hol_types.specs.Ty.{BoolTy, IntTy, VarTy, FunTy, ConsTy, no_types, more_types}
 use Rattle.hol_types.specs.TypeSubst.{type_for, instance_of, variables_of}
 
 -- 'a, 'b and list

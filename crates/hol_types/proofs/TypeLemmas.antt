@@ -1,13 +1,13 @@
 -- Trees by numbers: a type's tree is its node's, stays where the store grows, and tells the types apart.
-use Rattle.std.proofs.Common.{◌≡◌, ℕ, zero, suc, ◌+◌, ◌<◌, ◌≤◌, ◌⊎◌, List, [], ◌∷◌, ◌++◌, length, slice_get, get_or, Some, None, refl, sym, ap, ◌∙◌, subst, inl, inr, arith, Option, true, false, cond, Bool as Truth, is_some, not, append_assoc}
+use Rattle.std.proofs.Common.{◌≡◌, ℕ, zero, suc, ◌<◌, ◌⊎◌, List, [], ◌∷◌, ◌++◌, length, slice_get, get_or, Some, None, refl, sym, ap, ◌∙◌, subst, inl, inr, arith, Option, true, false, cond, Bool as Truth, is_some, not, append_assoc}
 use Rattle.std.specs.List.{AllByRecursion}
 use Rattle.std.specs.Map.{lookup}
 use Rattle.std.proofs.Math.Dec.{eqb}
 use Rattle.std.proofs.lemmas.Bool.{eqb-true, eq-eqb}
 use Rattle.std.proofs.lemmas.Option.{slice_get_within, slice_get-get_or, get_or_from_slice_get, none-some, same_Some}
-use Rattle.hol_types.specs.Once.{Once, Absent, Holds, IsAdded}
+use Rattle.hol_types.specs.Once.{Once, Holds, IsAdded}
 use Rattle.hol_types.proofs.Places.{IsAdded-holds, IsAdded-either, slice_get-left}
-use Rattle.hol_types.specs.Ty.{Ty, Tys, BoolTy, IntTy, VarTy, FunTy, ConsTy, no_types, more_types}
+use Rattle.hol_types.specs.Ty.{Ty, Tys, VarTy, FunTy, ConsTy, more_types}
 use Rattle.hol_types.specs.TypeStore.{TypeStore, text_of, arity_of, node_at, trees_of, node_tree, tree_within, type_tree, HasType, PartsBelow, HasArity, IsTypeStore, Grows, joined, tree_of, empty_types, with_arity, HasName, NamesApart, TreesApart}
 use Rattle.hol_types.specs.declared.node.TypeNode.{TypeNode}
 use Rattle.hol_types.specs.declared.node.TypeNode.TheVariants.{Bool, Int, Var, Fun, Cons}

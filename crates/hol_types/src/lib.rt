@@ -10,6 +10,8 @@ mod room;
 mod send;
 mod table;
 mod tables;
+#[cfg(test)]
+mod tests;
 mod types;
 
 pub use file_name::FileName;

@@ -4,3 +4,4 @@ pub mod KeepLemmas
 pub mod HypLemmas
 pub mod RuleLemmas
 pub mod KernelRules
+pub mod TestLemmas

@@ -12,6 +12,8 @@ mod hyps;
 mod kernel;
 mod premises;
 mod rules;
+#[cfg(test)]
+mod tests;
 mod thm;
 
 pub use crosses::may_cross;

@@ -7,12 +7,11 @@ use Rattle.hol_terms.specs.TermEq.{term_eq}
 use Rattle.hol_terms.specs.Constants.{false_tm, negation, implication}
 use Rattle.hol_terms.proofs.TermEqLemmas.{term_eq_decides}
 use Rattle.proof_plan.specs.declared.rule.Rule.{Rule}
-use Rattle.proof_plan.specs.declared.rule.Rule.TheVariants.{Asserted, Goal, Mp, UnitResolution}
-use Rattle.proof_plan.specs.declared.why.Why.TheVariants.{Shape}
+use Rattle.proof_plan.specs.declared.rule.Rule.TheVariants.{Mp, UnitResolution}
 use Rattle.proof_plan.specs.Rules.{TakesPremises}
-use Rattle.proof_plan.specs.PlanValue.{PlanValue, rule_of, premises_of, claim_of, premise_claim, premise_claims}
-use Rattle.proof_plan.specs.Accept.{Verdict, accepted, refused, by_form, are_complements, is_modus_ponens, is_resolved, row, Accept}
-use Rattle.proof_plan.specs.Rows.{AreComplements, IsModusPonens, HasComplement, IsResolved, IsForm, IsRow}
+use Rattle.proof_plan.specs.PlanValue.{PlanValue, rule_of, premises_of, claim_of, premise_claims}
+use Rattle.proof_plan.specs.Accept.{Verdict, by_form, are_complements, is_modus_ponens, is_resolved, row, Accept}
+use Rattle.proof_plan.specs.Rows.{AreComplements, IsForm, IsRow}
 
 -- a row that is a form, by the test that decides the form
 form_by_test : {Form : Type 0} (b : Bool) → Decides b Form → IsForm Form (by_form b)

@@ -1,14 +1,13 @@
 -- What a plan's nodes may use are formulas.
-use Rattle.std.proofs.Common.{◌≡◌, ◌⊎◌, ℕ, ◌<◌, List, [], ◌∷◌, ◌++◌, length, map, refl, inl, inr, rules}
+use Rattle.std.proofs.Common.{◌≡◌, ℕ, ◌<◌, List, [], ◌∷◌, length, map}
 use Rattle.std.specs.List.{All}
 use Rattle.std.proofs.lemmas.List.Elements.{All-head, All-tail}
-use Rattle.hol_terms.specs.Term.{Term}
-use Rattle.hol_terms.specs.Formula.{In, AllFormulas, IsFormula}
+use Rattle.hol_terms.specs.Formula.{AllFormulas}
 use Rattle.hol_terms.proofs.SetLemmas.{no_formulas, one_more, formulas_both}
 use Rattle.hol_terms.specs.declared.parts.Def.{Def}
-use Rattle.proof_plan.specs.PlanValue.{PlanValue, node_at, tree_in, trees_in}
-use Rattle.proof_plan.specs.Claims.{Facts, Assertions, Definitions, definition, Context, open_hyps, Hyps}
-use Rattle.proof_plan.specs.IsPlan.{IsPlan, IsNode, IsFormulaIn, IsAssertionIn, IsDefinitionIn}
+use Rattle.proof_plan.specs.PlanValue.{PlanValue, node_at, trees_in}
+use Rattle.proof_plan.specs.Claims.{Facts, definition, Context, Hyps}
+use Rattle.proof_plan.specs.IsPlan.{IsPlan, IsFormulaIn, IsAssertionIn, IsDefinitionIn}
 
 -- the trees of formulas of the plan are formulas
 formulas_in : (p : PlanValue) (ts : List ℕ) → All (IsFormulaIn p) ts → AllFormulas (trees_in p ts)

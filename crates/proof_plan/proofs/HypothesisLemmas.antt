@@ -1,16 +1,16 @@
 -- What the open hypotheses of nodes have to do with those of their premises.
-use Rattle.std.proofs.Common.{◌≡◌, ◌⊎◌, ℕ, zero, suc, ◌<◌, List, [], ◌∷◌, ◌++◌, length, inl, inr, arith, slice_index_or}
+use Rattle.std.proofs.Common.{ℕ, zero, suc, ◌<◌, List, [], ◌∷◌, length, arith, slice_index_or}
 use Rattle.std.specs.List.{flat_map}
 use Rattle.hol_terms.specs.Term.{Term}
-use Rattle.hol_terms.specs.Formula.{In, Within, SameMembers, AllFormulas}
+use Rattle.hol_terms.specs.Formula.{In, Within}
 use Rattle.hol_terms.proofs.SetLemmas.{in_append_left, in_append_right, in_map, within_context}
 use Rattle.proof_plan.specs.declared.rule.Rule.{Rule}
 use Rattle.proof_plan.specs.declared.rule.Rule.TheVariants.{Hypothesis, Lemma}
 use Rattle.proof_plan.specs.Rules.{TakesPremises}
 use Rattle.proof_plan.specs.PlanValue.{PlanValue, node_at, rule_of, premises_of, premise_at, claim_of}
 use Rattle.proof_plan.specs.Claims.{Assertions, Context, open_hyps, Hyps}
-use Rattle.proof_plan.specs.OpenHypotheses.{hyps_by, hyps_of, PassesHyps}
-use Rattle.proof_plan.specs.IsPlan.{IsPlan, IsNode, StatesAssertion}
+use Rattle.proof_plan.specs.OpenHypotheses.{hyps_by, PassesHyps}
+use Rattle.proof_plan.specs.IsPlan.{IsNode, StatesAssertion}
 
 -- what one number gives is among what all give
 among_all : (f : ℕ → List Term) (js : List ℕ) (i : ℕ) → i < length js → (h : Term) → In h (f (slice_index_or js i 0)) → In h (flat_map f js)

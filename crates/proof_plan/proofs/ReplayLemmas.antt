@@ -1,8 +1,7 @@
 -- The state of a node by the states of its premises.
-use Rattle.std.proofs.Common.{◌≡◌, ℕ, zero, suc, ◌<◌, Bool, true, List, [], ◌∷◌, length, refl, sym, ap, ◌∙◌, arith, slice_index_or, if◌then◌else◌}
+use Rattle.std.proofs.Common.{◌≡◌, ℕ, zero, suc, ◌<◌, true, List, [], ◌∷◌, length, refl, ◌∙◌, arith, slice_index_or}
 use Rattle.std.proofs.lemmas.List.Elements.{All-get_or}
 use Rattle.proof_plan.specs.declared.state.State.{State}
-use Rattle.proof_plan.specs.declared.state.State.TheVariants.{Blocked}
 use Rattle.proof_plan.specs.States.{is_proved}
 use Rattle.proof_plan.specs.PlanValue.{PlanValue, premises_of}
 use Rattle.proof_plan.specs.IsPlan.{IsPlan}

@@ -2,9 +2,9 @@
 -- The rows of `asserted`, `goal`, `mp` by an implication, and `unit-resolution` on claims without `or` are
 -- read. Until its own step each other rule's row reads: Shape. The bound on the number of distinct parts of
 -- a step comes with the numbers of parts.
-use Rattle.std.specs.Prelude.{◌≡◌, ℕ, Bool, true, false, ◌||◌, List, [], ◌∷◌}
+use Rattle.std.specs.Prelude.{ℕ, Bool, true, false, ◌||◌, List, [], ◌∷◌}
 use Rattle.std.specs.List.{list_any}
-use Rattle.hol_terms.specs.Term.{Term, AppTm}
+use Rattle.hol_terms.specs.Term.{Term}
 use Rattle.hol_terms.specs.TermEq.{term_eq}
 use Rattle.hol_terms.specs.Constants.{false_tm, negation, implication}
 use Rattle.proof_plan.specs.declared.rule.Rule.{Rule}

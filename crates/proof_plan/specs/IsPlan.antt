@@ -1,7 +1,7 @@
 -- What every plan is.
 use Rattle.std.specs.Prelude.{◌≡◌, ◌⊎◌, ℕ, ◌<◌, ◌-◌, List, [], length, All}
 use Rattle.hol_types.specs.Ty.{Ty}
-use Rattle.hol_terms.specs.Term.{Term, FreeTm, BoundTm, ConstTm, NumTm, AppTm, LamTm}
+use Rattle.hol_terms.specs.Term.{Term, FreeTm}
 use Rattle.hol_terms.specs.TermStore.{HasTerm}
 use Rattle.hol_terms.specs.Substitution.{free_variables}
 use Rattle.hol_terms.specs.Formula.{IsFormula, In, SameMembers}

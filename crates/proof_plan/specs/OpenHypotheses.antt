@@ -1,9 +1,9 @@
 -- The open hypotheses of rule applications.
-use Rattle.std.specs.Prelude.{ℕ, Bool, not, List, [], ◌∷◌, ◌++◌, filter, if◌then◌else◌}
+use Rattle.std.specs.Prelude.{Bool, not, List, [], ◌∷◌, ◌++◌, filter, if◌then◌else◌}
 use Rattle.std.specs.List.{list_any, flat_map}
-use Rattle.hol_terms.specs.Term.{Term, FreeTm, BoundTm, ConstTm, NumTm, AppTm, LamTm}
+use Rattle.hol_terms.specs.Term.{Term, AppTm}
 use Rattle.hol_terms.specs.TermEq.{term_eq}
-use Rattle.hol_terms.specs.Constants.{or_tm, disjunction}
+use Rattle.hol_terms.specs.Constants.{or_tm}
 use Rattle.proof_plan.specs.declared.rule.Rule.{Rule}
 use Rattle.proof_plan.specs.declared.rule.Rule.TheVariants.{Hypothesis, Lemma}
 use Rattle.proof_plan.specs.declared.node.PlanNode.{PlanNode}

@@ -1,5 +1,5 @@
 -- The states of the nodes where each is replayed by its rule alone.
-use Rattle.std.specs.Prelude.{◌≡◌, ℕ, ◌<◌, zero, suc, Bool, true, false, List, [], ◌∷◌, if◌then◌else◌}
+use Rattle.std.specs.Prelude.{◌≡◌, ℕ, ◌<◌, zero, suc, true, List, [], ◌∷◌, if◌then◌else◌}
 use Rattle.proof_plan.specs.declared.state.State.{State}
 use Rattle.proof_plan.specs.declared.state.State.TheVariants.{Open, Plain, Failed, Blocked}
 use Rattle.proof_plan.specs.States.{is_proved}

@@ -1,5 +1,5 @@
 -- The states of nodes.
-use Rattle.std.specs.Prelude.{ℕ, Bool, true, false}
+use Rattle.std.specs.Prelude.{Bool, true, false}
 use Rattle.proof_plan.specs.declared.state.State.{State}
 use Rattle.proof_plan.specs.declared.state.State.TheVariants.{Open, Plain, ByNet, Failed, Blocked, NoMemory}
 

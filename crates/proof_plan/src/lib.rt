@@ -12,6 +12,8 @@ mod rule;
 mod send;
 mod state;
 mod step;
+#[cfg(test)]
+mod tests;
 mod weight;
 mod why;
 

@@ -103,8 +103,18 @@ impl Plan {
         ensures is { result ≡ length self.now.nodes - 1 }
         ensures there { result < length self.now.nodes }
         ensures claim { claim_of self.now result ≡ false_tm }
+        ensures lawful { IsPlan self.now }
     {
         self.nodes.len() as u64 - 1
+    }
+
+    /// The terms, with the facts, the goal and the assertions. The rule applications are let go.
+    pub fn into_parts(self) -> (Frozen, Parts)
+        ensures terms { result.0 ≡ self.store }
+        ensures parts { result.1 ≡ self.parts }
+        ensures lawful { IsPlan self }
+    {
+        (self.base, self.parts)
     }
 }
 

@@ -1,4 +1,4 @@
-use Rattle.std.proofs.Common.{◌≡◌, ◌+◌, ◌*◌, ◌<◌, take, length, List, ℕ}
+use Rattle.std.proofs.Common.{◌+◌, ◌*◌, take}
 use Rattle.hol_types.specs.TypeStore.{IsTypeStore, joined}
 use Rattle.hol_types.specs.KeepsTypes.{KeepsTypes}
 use Rattle.hol_types.specs.TypeSubst.{subst_tree}

@@ -1,4 +1,4 @@
-use Rattle.std.proofs.Common.{sym, rules, ap, ◌+◌}
+use Rattle.std.proofs.Common.{rules}
 use Rattle.hol_types.proofs.Places.{slice_get-left, slice_get-right, Absent-join}
 use Rattle.hol_types.proofs.layer.find_bytes_in.Goals as goal
 

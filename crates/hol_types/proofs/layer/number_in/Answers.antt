@@ -1,5 +1,4 @@
-use Rattle.std.proofs.Common.{rules}
-use Rattle.hol_types.proofs.Places.{slice_get-left, slice_get-right, Once-added_right, IsAdded-right}
+use Rattle.hol_types.proofs.Places.{slice_get-right, Once-added_right, IsAdded-right}
 use Rattle.hol_types.specs.Once.{kept}
 use Rattle.hol_types.proofs.layer.number_in.Goals as goal
 

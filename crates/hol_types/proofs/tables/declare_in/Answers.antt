@@ -1,6 +1,5 @@
-use Rattle.std.proofs.Common.{◌≡◌, ◌∙◌, sym, ap, subst, ℕ, Some, None}
-use Rattle.hol_types.specs.TypeStore.{TypeStore, IsTypeStore, Grows, arity_of, joined, with_arity}
-use Rattle.hol_types.specs.KeepsTypes.{KeepsTypes}
+use Rattle.std.proofs.Common.{◌≡◌, ◌∙◌, sym, ap, subst, Some, None}
+use Rattle.hol_types.specs.TypeStore.{IsTypeStore, Grows, arity_of, joined, with_arity}
 use Rattle.hol_types.proofs.TypeLemmas.{arity_of-right, arity_of-declared, arity_of-others, declared_joined, Grows-declared, IsTypeStore-declared, none_from_test}
 use Rattle.hol_types.proofs.KeepsLemmas.{keeps_types_grown}
 use Rattle.hol_types.proofs.tables.declare_in.Goals as goal

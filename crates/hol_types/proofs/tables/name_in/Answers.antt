@@ -1,6 +1,4 @@
-use Rattle.std.proofs.Common.{◌≡◌}
-use Rattle.hol_types.specs.TypeStore.{joined, Grows, IsTypeStore}
-use Rattle.hol_types.proofs.TypeLemmas.{names_apart, Grows-named, IsTypeStore-named, text_at, name_there}
+use Rattle.hol_types.proofs.TypeLemmas.{names_apart, Grows-named, IsTypeStore-named}
 use Rattle.hol_types.proofs.KeepsLemmas.{keeps_types_grown}
 use Rattle.hol_types.specs.contracts.tables.TypeTables.{the_view}
 use Rattle.hol_types.proofs.tables.name_in.Goals as goal

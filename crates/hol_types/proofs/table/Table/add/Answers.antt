@@ -1,5 +1,3 @@
-use Rattle.std.proofs.Common.{◌≡◌, ◌∙◌, sym, ap, Some, slice_get, length, ◌≤◌}
-use Rattle.hol_types.specs.Once.{IsAdded}
 use Rattle.hol_types.proofs.OnceLemmas.{Once-from_distinct, inserted}
 use Rattle.hol_types.proofs.Places.{added_within}
 use Rattle.hol_types.proofs.table.Table.add.Goals as goal
