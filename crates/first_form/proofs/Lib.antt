@@ -1,0 +1,10 @@
+pub mod LexiconLemmas
+pub mod FormulaLemmas
+pub mod GoalLemmas
+pub mod PrintLemmas
+pub mod AssertionLemmas
+pub mod ProofLemmas
+pub mod StepLemmas
+pub mod SettingLemmas
+pub mod RefutationLemmas
+pub mod PlanLemmas

@@ -1,0 +1,65 @@
+-- The formulas of the first goal form and the first proof form: constants of type Bool, `false`, negations
+-- and implications.
+use Rattle.std.specs.Prelude.{ℕ, List, [], ◌∷◌, ◌++◌, Option, Some, None, if◌then◌else◌, bytes_eq, codes}
+use Rattle.hol_types.specs.Ty.{BoolTy}
+use Rattle.hol_terms.specs.Term.{Term, ConstTm}
+use Rattle.hol_terms.specs.Constants.{false_tm, negation, implication}
+use Rattle.sexp.specs.Tree.{Tree, Trees, AtomTree, QuotedTree, ListTree, no_trees, more_trees}
+use Rattle.first_form.specs.declared.lexicon.Spelling.{Spelling}
+use Rattle.first_form.specs.declared.lexicon.Spelling.TheVariants.{Plain, Dollar}
+use Rattle.first_form.specs.Trees.{text_of}
+use Rattle.first_form.specs.Read.{◌>>=◌}
+
+-- a constant's name as a file writes it: a goal file as it is, a proof file with `$` behind it
+abbrev pub spelled : Spelling → List ℕ → List ℕ
+spelled Plain name = name
+spelled Dollar name = name ++ codes "$"
+
+-- the constant, of those with these names, that is so written
+unfoldable pub constant_of : Spelling → List (List ℕ) → List ℕ → Option Term
+constant_of spelling [] text = None
+constant_of spelling (name ∷ names) text =
+    if bytes_eq text (spelled spelling name) then Some (ConstTm name BoolTy) else constant_of spelling names text
+
+-- an atom: `false`, or a constant
+unfoldable pub atom_of : Spelling → List (List ℕ) → List ℕ → Option Term
+atom_of spelling names text = if bytes_eq text (codes "false") then Some false_tm else constant_of spelling names text
+
+-- implications of each formula by those before it, nested to the right
+abbrev pub implied : Term → List Term → Term
+implied a [] = a
+implied a (b ∷ more) = implication a (implied b more)
+
+-- (not a)
+abbrev pub negation_of : List Term → Option Term
+negation_of (a ∷ []) = Some (negation a)
+negation_of parts = None
+
+-- (=> a b ..)
+abbrev pub implication_of : List Term → Option Term
+implication_of (a ∷ b ∷ more) = Some (implied a (b ∷ more))
+implication_of parts = None
+
+-- a word with the formulas behind it
+unfoldable pub built : List ℕ → List Term → Option Term
+built word parts =
+    if bytes_eq word (codes "not") then negation_of parts else
+    if bytes_eq word (codes "=>") then implication_of parts else None
+
+unfoldable mutual
+  -- the formula that a tree is read as, these being the names of the constants
+  pub formula_of : Spelling → List (List ℕ) → Tree → Option Term
+  formula_of spelling names (AtomTree at text) = atom_of spelling names text
+  formula_of spelling names (QuotedTree at text) = None
+  formula_of spelling names (ListTree at no_trees) = None
+  formula_of spelling names (ListTree at (more_trees head parts)) = do
+    formulas ← formulas_of spelling names parts
+    built (text_of head) formulas
+
+  -- from left to right
+  pub formulas_of : Spelling → List (List ℕ) → Trees → Option (List Term)
+  formulas_of spelling names no_trees = Some []
+  formulas_of spelling names (more_trees tree trees) = do
+    first ← formula_of spelling names tree
+    others ← formulas_of spelling names trees
+    Some (first ∷ others)

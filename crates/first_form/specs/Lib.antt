@@ -1,0 +1,13 @@
+pub mod Read
+pub mod Trees
+pub mod Names
+pub mod Formulas
+pub mod GoalForm
+pub mod GoalText
+pub mod Lexicon
+pub mod Problem
+pub mod ProofForm
+pub mod ProofNodes
+pub mod Steps
+pub mod Setting
+pub mod ProofPlan
