@@ -1,0 +1,2 @@
+pub mod RefutationLemmas
+pub mod FinishLemmas
