@@ -3,10 +3,14 @@
 top=$(cd "$(dirname "$0")" && pwd)
 program=$top/crates/smt_cli/out/smt_cli
 if [ ! -x "$program" ]; then
-    (cd "$top/crates/smt_cli" && rt run -- check no-goal no-proof > "$top/crates/smt_cli/build.log" 2>&1)
+    echo "smt: proving and building the program; this takes some minutes, once" >&2
+    log=$(mktemp)
+    (cd "$top/crates/smt_cli" && rt run -- check no-goal no-proof) > "$log" 2>&1
     if [ ! -x "$program" ]; then
-        cat "$top/crates/smt_cli/build.log" >&2
+        cat "$log" >&2
+        rm -f "$log"
         exit 70
     fi
+    rm -f "$log"
 fi
 exec "$program" "$@"

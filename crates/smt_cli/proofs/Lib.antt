@@ -1,0 +1,5 @@
+pub mod RunLemmas
+pub mod TextLemmas
+pub mod AnswerLemmas
+pub mod CheckLemmas
+pub mod WordLemmas

@@ -1,0 +1,7 @@
+pub mod CommandLine
+pub mod Answers
+pub mod Writing
+pub mod Follows
+pub mod Checking
+pub mod Outcomes
+pub mod PlanAnswers
