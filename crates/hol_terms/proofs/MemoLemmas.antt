@@ -2,7 +2,9 @@
 use Rattle.std.proofs.Common.{◌≡◌, ℕ, Option, Some, None, cond, Bool, true, false, refl, sym, ap, ◌∙◌, subst, ◌&&◌, nat_eq}
 use Rattle.std.specs.HashMap.{get_by}
 use Rattle.std.specs.Map.{lookup}
-use Rattle.std.specs.HashSet.{contains}
+use Rattle.std.specs.HashSet.{HashSet, contains}
+use Rattle.std.specs.declared.hash.FoldHasher.{FoldHasher}
+use Rattle.std.specs.declared.hash.BuildHasherDefault.{BuildHasherDefault}
 use Rattle.std.proofs.lemmas.Option.{same_Some}
 use Rattle.std.proofs.Math.Dec.{eqb}
 use Rattle.hol_types.specs.Exact.{both_true}
@@ -11,9 +13,10 @@ use Rattle.hol_types.proofs.TypeLemmas.{eqb_sound}
 use Rattle.hol_terms.specs.declared.memo.Part.{Part}
 use Rattle.hol_types.specs.TypeSubst.{TypeSubst}
 use Rattle.hol_terms.specs.Term.{Term, BoundsFit}
-use Rattle.hol_terms.specs.Substitution.{subst_bound, close_free, subst_types}
+use Rattle.hol_terms.specs.Substitution.{subst_bound, subst_free, close_free, subst_types}
+use Rattle.hol_terms.specs.Formula.{NotFreeIn}
 use Rattle.hol_terms.specs.TermStore.{TermStore, HasTerm, Keeps, term_tree}
-use Rattle.hol_terms.specs.Memo.{Results, EachResult, Parts, part_eq, AllFit, IsOpened, AllOpened, IsClosedPart, AllClosed, IsInstance, AllInstances}
+use Rattle.hol_terms.specs.Memo.{Results, EachResult, Parts, part_eq, AllFit, IsOpened, AllOpened, IsClosedPart, AllClosed, IsInstance, AllInstances, IsReplaced, AllReplaced, AllWithout}
 
 pub same_part : (p q : Part) → part_eq p q ≡ true → p ≡ q
 same_part p q h =
@@ -98,3 +101,32 @@ instances_unchanged same all = record { each = λ t r h. all.each t r (ap (λ es
 pub instances_put : (s : TermStore) (types : TypeSubst) (m n : Results ℕ) (t r : ℕ) → AllInstances s types m → ((q : ℕ) → get_by (nat_eq q) n ≡ cond (nat_eq t q) (Some r) (get_by (nat_eq q) m))
     → HasTerm s t → HasTerm s r → term_tree s r ≡ subst_types types (term_tree s t) → AllInstances s types n
 instances_put s types m n t r old puts there made tree = record { each = result_put nat_eq eqb_sound (IsInstance s types) m n t r old.each puts (record { there = there; made = made; tree = tree }) }
+
+-- ---- parts with a term for a variable
+
+pub replaced_kept : {s w : TermStore} {v u : Term} {m : Results ℕ} → Keeps s w → AllReplaced s v u m → AllReplaced w v u m
+replaced_kept {s} {w} {v} {u} {m} keeps all = record {
+  each = λ t r h.
+      let is = all.each t r h in
+      record {
+        there = keeps.terms t is.there;
+        made = keeps.terms r is.made;
+        tree = keeps.trees r is.made ∙ is.tree ∙ ap (λ x. subst_free v u x) (sym (keeps.trees t is.there));
+      };
+}
+
+pub replaced_unchanged : {s : TermStore} {v u : Term} {m n : Results ℕ} → n.entries ≡ m.entries → AllReplaced s v u m → AllReplaced s v u n
+replaced_unchanged same all = record { each = λ t r h. all.each t r (ap (λ es. lookup (nat_eq t) es) (sym same) ∙ h) }
+
+pub replaced_put : (s : TermStore) (v u : Term) (m n : Results ℕ) (t r : ℕ) → AllReplaced s v u m → ((q : ℕ) → get_by (nat_eq q) n ≡ cond (nat_eq t q) (Some r) (get_by (nat_eq q) m))
+    → HasTerm s t → HasTerm s r → term_tree s r ≡ subst_free v u (term_tree s t) → AllReplaced s v u n
+replaced_put s v u m n t r old puts there made tree = record { each = result_put nat_eq eqb_sound (IsReplaced s v u) m n t r old.each puts (record { there = there; made = made; tree = tree }) }
+
+-- ---- parts without a variable
+
+pub without_put : (s : TermStore) (v : Term) (m n : HashSet ℕ (BuildHasherDefault FoldHasher)) (t : ℕ) → AllWithout s v m → ((q : ℕ) → contains nat_eq n q ≡ cond (nat_eq t q) true (contains nat_eq m q)) → NotFreeIn v (term_tree s t) → AllWithout s v n
+without_put s v m n t old puts here = record { each = λ q h. by q (eqb t q) refl (sym (puts q) ∙ h) }
+  where
+    by : (q : ℕ) (b : Bool) → eqb t q ≡ b → cond b true (contains nat_eq m q) ≡ true → NotFreeIn v (term_tree s q)
+    by q true e f = subst (λ z. NotFreeIn v (term_tree s z)) (eqb_sound t q e) here
+    by q false e f = old.each q f

@@ -9,7 +9,8 @@ use Rattle.hol_terms.specs.declared.memo.Part.{Part}
 use Rattle.hol_terms.specs.Term.{Term, BoundsFit}
 use Rattle.hol_terms.specs.TermStore.{TermStore, HasTerm, term_tree}
 use Rattle.hol_types.specs.TypeSubst.{TypeSubst}
-use Rattle.hol_terms.specs.Substitution.{subst_bound, close_free, subst_types}
+use Rattle.hol_terms.specs.Substitution.{subst_bound, subst_free, close_free, subst_types}
+use Rattle.hol_terms.specs.Formula.{NotFreeIn}
 
 -- results by keys
 abbrev pub Results : Type 0 → Type 0
@@ -60,3 +61,17 @@ pub record IsInstance (s : TermStore) (types : TypeSubst) (t r : ℕ) : Type 0 w
 -- so do all results
 pub record AllInstances (s : TermStore) (types : TypeSubst) (m : Results ℕ) : Type 0 where
   pub each : EachResult nat_eq (IsInstance s types) m
+
+-- the result stands for the part with u for the free variable v
+pub record IsReplaced (s : TermStore) (v u : Term) (t r : ℕ) : Type 0 where
+  pub there : HasTerm s t
+  pub made : HasTerm s r
+  pub tree : term_tree s r ≡ subst_free v u (term_tree s t)
+
+-- so do all results
+pub record AllReplaced (s : TermStore) (v u : Term) (m : Results ℕ) : Type 0 where
+  pub each : EachResult nat_eq (IsReplaced s v u) m
+
+-- each of the parts is without the free variable v
+pub record AllWithout (s : TermStore) (v : Term) (parts : HashSet ℕ (BuildHasherDefault FoldHasher)) : Type 0 where
+  pub each : (t : ℕ) → contains nat_eq parts t ≡ true → NotFreeIn v (term_tree s t)

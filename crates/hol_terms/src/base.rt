@@ -10,7 +10,9 @@ use crate::intern::intern_in;
 use crate::node::{Node, TermId};
 use crate::tables::{TermTables, known_node_in, reach_in, ty_in};
 use crate::terms::Terms;
-use crate::type_tables::{declare_in, instance_in, intern_type_in, name_in, text_in, type_node_in};
+use crate::type_tables::{
+    declare_in, instance_in, intern_type_in, match_type_in, name_in, text_in, type_node_in,
+};
 use crate::typed::TermFault;
 use hol_types::{NameId, Subst, TypeFault, TypeId, TypeNode};
 use std::alloc::{AllocError, Global};
@@ -199,6 +201,15 @@ impl Terms for Base {
         instance_in(&self.none, &mut self.own, t, s)
     }
 
+    fn match_type(
+        &self,
+        pattern: TypeId,
+        t: TypeId,
+        s: &Subst,
+    ) -> Result<Option<Subst>, AllocError> {
+        match_type_in(&self.none, &self.own, pattern, t, s)
+    }
+
     fn intern(&mut self, node: Node) -> Result<TermId, TermFault> {
         intern_in(&self.none, &mut self.own, node)
     }
@@ -249,6 +260,15 @@ impl<'b> Terms for Store<'b> {
 
     fn instance(&mut self, t: TypeId, s: &Subst) -> Result<TypeId, AllocError> {
         instance_in(self.base.tables(), &mut self.own, t, s)
+    }
+
+    fn match_type(
+        &self,
+        pattern: TypeId,
+        t: TypeId,
+        s: &Subst,
+    ) -> Result<Option<Subst>, AllocError> {
+        match_type_in(self.base.tables(), &self.own, pattern, t, s)
     }
 
     fn intern(&mut self, node: Node) -> Result<TermId, TermFault> {

@@ -6,12 +6,14 @@ mod close;
 mod constants;
 mod crosses;
 mod fits;
+mod free_in;
 mod instantiate;
 mod intern;
 mod memo;
 mod node;
 mod open;
 mod parts;
+mod subst;
 mod tables;
 mod terms;
 #[cfg(test)]

@@ -1,22 +1,26 @@
 //! What keeps terms, however it is kept.
-ghost use Rattle.std.specs.Prelude.{◌≡◌, ℕ, ◌↔◌, IsTrue, IfOk, OnOk, IfErr, Some, None};
+ghost use Rattle.std.specs.Prelude.{◌≡◌, ℕ, ◌↔◌, IsTrue, IfOk, IfSome, OnOk, IfErr, Some, None};
 ghost use Rattle.hol_types.specs.TypeStore.{HasName, HasType, HasArity, HasTypeParts, NamesApart, TreesApart, arity_of, text_of, type_tree};
 ghost use Rattle.hol_types.specs.TypeStore as types;
-ghost use Rattle.hol_types.specs.TypeSubst.{HasSubst, subst_tree, instance_of};
+ghost use Rattle.hol_types.specs.TypeSubst.{HasSubst, NamesOnce, subst_tree, instance_of};
+ghost use Rattle.hol_types.specs.TypeMatch.{Matches, IsLeast, NeverIs};
 ghost use Rattle.hol_terms.specs.Term.{BoundsFit, Typed, ty_of};
 ghost use Rattle.hol_terms.specs.Reach.{reach_of};
-ghost use Rattle.hol_terms.specs.Substitution.{close_free, subst_bound, subst_types, IsClosed};
+ghost use Rattle.hol_terms.specs.Substitution.{close_free, free_variables, subst_bound, subst_free, subst_types, IsClosed};
+ghost use Rattle.hol_terms.specs.Formula.{In};
 ghost use Rattle.hol_terms.specs.TermStore.{TermStore, Keeps, TermsApart, term_tree, tree_of, HasTerm, HasParts, PartsBelow};
 
 use crate::close::close_part;
+use crate::free_in::part_has;
 use crate::instantiate::instantiate_part;
 use crate::memo::Part;
 use crate::node::{Node, TermId};
 use crate::open::open_part;
+use crate::subst::subst_part;
 use crate::typed::TermFault;
 use hol_types::{NameId, Subst, TypeFault, TypeId, TypeNode};
 use std::alloc::{AllocError, Global};
-use std::collections::HashMap;
+use std::collections::{HashMap, HashSet};
 
 /// A store of names, types and terms, each kept once. A number stands for a text or a tree, two numbers are equal
 /// exactly where these are, and no call changes what a number stands for. Where a call that may add answers that there is
@@ -85,6 +89,18 @@ pub trait Terms {
         ensures keeps { Keeps (store self.old) (store self.new) }
         ensures rest { rest self.new ≡ rest self.old };
 
+    /// The least extension of s that gives each type variable of the pattern a type, so that with these the pattern is
+    /// the type; each other extension that does so extends it. None exactly where under no extension of s the pattern is
+    /// the type. It takes one step for each distinct part of the pattern.
+    fn match_type(&self, pattern: TypeId, t: TypeId, s: &Subst) -> Result<Option<Subst>, AllocError>
+        requires pattern { HasType (store self.now).types pattern }
+        requires there { HasType (store self.now).types t }
+        requires subst { HasSubst (store self.now).types s.now }
+        ensures there { IfOk result (λ found. IfSome found (λ u. HasSubst (store self.now).types u)) }
+        ensures least { IfOk result (λ found. IfSome found (λ u. IsLeast (Matches (type_tree (store self.now).types pattern) (type_tree (store self.now).types t)) (subst_tree (store self.now).types s.now) (subst_tree (store self.now).types u))) }
+        ensures once { IfOk result (λ found. IfSome found (λ u. NamesOnce s.now → NamesOnce u)) }
+        ensures none { IfOk result (λ found. found ≡ None → NeverIs (subst_tree (store self.now).types s.now) (type_tree (store self.now).types pattern) (type_tree (store self.now).types t)) };
+
     /// The number of a term, given by the numbers of its parts. It is added where it is new.
     /// Ill exactly where it isn't typed: an application doesn't fit, a Bound doesn't have its binder's type, or a number
     /// isn't below 2^127 in absolute value.
@@ -125,6 +141,36 @@ pub trait Terms {
         ensures { IsTrue result ↔ IsClosed (term_tree (store self.now) t) }
     {
         self.reach(t) == 0
+    }
+
+    /// Whether the free variable v occurs in a term. It takes one step for each distinct part.
+    final fn free_in(&self, v: TermId, t: TermId) -> Result<bool, AllocError>
+        requires variable { HasTerm (store self.now) v }
+        requires term { HasTerm (store self.now) t }
+        ensures { IfOk result (λ r. IsTrue r ↔ In (term_tree (store self.now) v) (free_variables (term_tree (store self.now) t))) }
+    {
+        let mut seen = HashSet::new(self.allocator());
+        let free = part_has(self, &mut seen, v, t)?;
+        Ok(free)
+    }
+
+    /// The term with u for the free variable v, whose type u has; u has no loose Bound. It takes one step for each
+    /// distinct part, and a part without the variable stays.
+    final fn subst(&mut self, t: TermId, v: TermId, u: TermId) -> Result<TermId, AllocError>
+        requires term { HasTerm (store self.old) t }
+        requires variable { HasTerm (store self.old) v }
+        requires new { HasTerm (store self.old) u }
+        requires closed { IsClosed (term_tree (store self.old) u) }
+        requires same_type { ty_of (term_tree (store self.old) u) ≡ ty_of (term_tree (store self.old) v) }
+        ensures there { IfOk result (λ r. HasTerm (store self.new) r) }
+        ensures tree { IfOk result (λ r. term_tree (store self.new) r ≡ subst_free (term_tree (store self.old) v) (term_tree (store self.old) u) (term_tree (store self.old) t)) }
+        ensures keeps { Keeps (store self.old) (store self.new) }
+        ensures rest { rest self.new ≡ rest self.old }
+    {
+        let _typed = self.ty(u);
+        let mut memo = HashMap::new(self.allocator());
+        let r = subst_part(self, &mut memo, t, v, u)?;
+        Ok(r)
     }
 
     /// The term with the given types for its type variables. It takes one step for each distinct part.

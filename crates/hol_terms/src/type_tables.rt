@@ -1,8 +1,9 @@
 //! Names and types in the tables of terms.
-ghost use Rattle.std.specs.Prelude.{◌≡◌, ℕ, ◌↔◌, IsTrue, IfOk, OnOk, OnErr, IfErr, Some, None};
+ghost use Rattle.std.specs.Prelude.{◌≡◌, ℕ, ◌↔◌, IsTrue, IfOk, IfSome, OnOk, OnErr, IfErr, Some, None};
 ghost use Rattle.hol_types.specs.TypeStore.{HasName, HasType, HasTypeParts, HasArity, NamesApart, TreesApart, arity_of, text_of, type_tree};
 ghost use Rattle.hol_types.specs.TypeStore as types;
-ghost use Rattle.hol_types.specs.TypeSubst.{HasSubst, subst_tree, instance_of};
+ghost use Rattle.hol_types.specs.TypeSubst.{HasSubst, NamesOnce, subst_tree, instance_of};
+ghost use Rattle.hol_types.specs.TypeMatch.{Matches, IsLeast, NeverIs};
 ghost use Rattle.hol_terms.specs.TermStore.{IsTermStore, GrowsTo, Keeps, joined};
 
 use crate::tables::TermTables;
@@ -104,4 +105,25 @@ pub(crate) fn instance_in(
 {
     let alloc = own.allocator();
     types::instance_in(&base.types, &mut own.types, alloc, t, s.as_slice())
+}
+
+/// The least types for the type variables of a pattern that go on from the given ones and make it the type.
+pub(crate) fn match_type_in(
+    base: &TermTables,
+    own: &TermTables,
+    pattern: TypeId,
+    t: TypeId,
+    s: &Subst,
+) -> Result<Option<Subst>, AllocError>
+    requires lawful { IsTermStore (joined base.now own.now) }
+    requires pattern { HasType (joined base.now own.now).types pattern }
+    requires there { HasType (joined base.now own.now).types t }
+    requires subst { HasSubst (joined base.now own.now).types s.now }
+    ensures there { IfOk result (λ found. IfSome found (λ u. HasSubst (joined base.now own.now).types u)) }
+    ensures least { IfOk result (λ found. IfSome found (λ u. IsLeast (Matches (type_tree (joined base.now own.now).types pattern) (type_tree (joined base.now own.now).types t)) (subst_tree (joined base.now own.now).types s.now) (subst_tree (joined base.now own.now).types u))) }
+    ensures once { IfOk result (λ found. IfSome found (λ u. NamesOnce s.now → NamesOnce u)) }
+    ensures none { IfOk result (λ found. found ≡ None → NeverIs (subst_tree (joined base.now own.now).types s.now) (type_tree (joined base.now own.now).types pattern) (type_tree (joined base.now own.now).types t)) }
+{
+    let alloc = own.allocator();
+    types::match_in(&base.types, &own.types, alloc, pattern, t, s.as_slice())
 }

@@ -44,7 +44,7 @@ same_test s is n m here there =
     numbers
 
 -- so looking up by text is looking up by number
-look_up : (s : TypeStore) → IsTypeStore s → (n : ℕ) → HasName s n → (ps : List (ℕ × ℕ)) → HasSubst s ps → lookup (bytes_eq (text_of s n)) (subst_tree s ps) ≡ option_map (λ t. type_tree s t) (lookup (eqb n) ps)
+pub look_up : (s : TypeStore) → IsTypeStore s → (n : ℕ) → HasName s n → (ps : List (ℕ × ℕ)) → HasSubst s ps → lookup (bytes_eq (text_of s n)) (subst_tree s ps) ≡ option_map (λ t. type_tree s t) (lookup (eqb n) ps)
 look_up s is n here [] all = refl
 look_up s is n here (p ∷ ps) all = ap (λ b. cond b (Some (type_tree s p.1)) (lookup (bytes_eq (text_of s n)) (subst_tree s ps))) (same_test s is n p.0 here all.0.0) ∙ by (eqb n p.0) (look_up s is n here ps all.1)
   where

@@ -5,4 +5,5 @@ pub mod MarkLemmas
 pub mod KeepsLemmas
 pub mod InstanceLemmas
 pub mod TyEqLemmas
+pub mod MatchLemmas
 mod TypeExamples

@@ -129,7 +129,7 @@ type_tree-injective s is t u = type_tree-apart s is (suc t) t u (omega arith)
 -- ---- one step of a store
 
 -- what is declared in the one, or else in the other
-lookup-left : {K X : Type 0} (test : K → Truth) (xs ys : List (K × X)) (v : X) → lookup test xs ≡ Some v → lookup test (xs ++ ys) ≡ Some v
+pub lookup-left : {K X : Type 0} (test : K → Truth) (xs ys : List (K × X)) (v : X) → lookup test xs ≡ Some v → lookup test (xs ++ ys) ≡ Some v
 lookup-left test [] ys v h = absurd (none-some v h)
 lookup-left {K} {X} test (x ∷ xs) ys v h = by (test x.0) h (lookup-left test xs ys v)
   where
@@ -137,7 +137,7 @@ lookup-left {K} {X} test (x ∷ xs) ys v h = by (test x.0) h (lookup-left test x
     by true k rest = k
     by false k rest = rest k
 
-lookup-right : {K X : Type 0} (test : K → Truth) (xs ys : List (K × X)) → lookup test xs ≡ None → lookup test (xs ++ ys) ≡ lookup test ys
+pub lookup-right : {K X : Type 0} (test : K → Truth) (xs ys : List (K × X)) → lookup test xs ≡ None → lookup test (xs ++ ys) ≡ lookup test ys
 lookup-right test [] ys h = refl
 lookup-right test (x ∷ xs) ys h = by (test x.0) h (lookup-right test xs ys)
   where

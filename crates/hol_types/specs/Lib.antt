@@ -5,6 +5,8 @@ pub mod TyEq
 pub mod TypeStore
 pub mod TypeSubst
 pub mod Instance
+pub mod TypeMatch
+pub mod Matching
 pub mod TypeMark
 pub mod KeepsTypes
 pub mod Roomy

@@ -2,6 +2,7 @@
 use Rattle.std.specs.Prelude.{ℕ, List, [], ◌∷◌, ◌++◌, bytes_eq, unwrap_or, map}
 use Rattle.std.specs.Map.{lookup}
 use Rattle.std.specs.List.{AllByRecursion}
+use Rattle.hol_types.specs.Once.{Once}
 use Rattle.hol_types.specs.Ty.{Ty, Tys, BoolTy, IntTy, VarTy, FunTy, ConsTy, no_types, more_types}
 use Rattle.hol_types.specs.TypeStore.{TypeStore, HasName, HasType, text_of, type_tree}
 
@@ -46,6 +47,10 @@ abbrev mutual
 -- each name and each type of the list is in the store
 abbrev pub HasSubst : TypeStore → List (ℕ × ℕ) → Type 0
 HasSubst s ps = AllByRecursion (λ p. HasName s p.0 × HasType s p.1) ps
+
+-- each name stands once in the list
+pub record NamesOnce (ps : List (ℕ × ℕ)) : Type 0 where
+  pub names : Once (map (λ p. p.0) ps)
 
 -- the texts and the trees that a list of numbers stands for
 abbrev pub subst_tree : TypeStore → List (ℕ × ℕ) → TypeSubst

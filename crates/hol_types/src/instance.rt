@@ -16,7 +16,7 @@ use std::alloc::{AllocError, Global};
 pub type Subst = List<(NameId, TypeId)>;
 
 /// The type given for a name.
-fn given(s: &[(NameId, TypeId)], n: NameId) -> Option<TypeId>
+pub(crate) fn given(s: &[(NameId, TypeId)], n: NameId) -> Option<TypeId>
     ensures { result ≡ lookup (nat_eq n) s.now }
 {
     for p in s {

@@ -1,11 +1,13 @@
 //! Types of simple type theory, each kept once.
-ghost use Rattle.std.specs.Prelude.{◌≡◌, ℕ, ◌↔◌, IsTrue, IfOk, OnOk, OnErr, IfErr, None, if◌then◌else◌};
+ghost use Rattle.std.specs.Prelude.{◌≡◌, ℕ, ◌↔◌, IsTrue, IfOk, IfSome, OnOk, OnErr, IfErr, None, if◌then◌else◌};
 ghost use Rattle.hol_types.specs.Once.{IsAdded};
 ghost use Rattle.hol_types.specs.TypeStore.{HasName, HasType, HasTypeParts, PartsBelow, HasArity, NamesApart, TreesApart, empty_types, with_arity, arity_of, text_of, type_tree, tree_of};
 ghost use Rattle.hol_types.specs.KeepsTypes.{KeepsTypes};
-ghost use Rattle.hol_types.specs.TypeSubst.{HasSubst, subst_tree, instance_of};
+ghost use Rattle.hol_types.specs.TypeSubst.{HasSubst, NamesOnce, subst_tree, instance_of};
+ghost use Rattle.hol_types.specs.TypeMatch.{Matches, IsLeast, NeverIs};
 
 use crate::instance::{Subst, instance_in};
+use crate::matching::match_in;
 use crate::node::{NameId, TypeId, TypeNode};
 use crate::tables::{
     TypeFault, TypeTables, declare_in, intern_in, known_node_in, name_in, text_in,
@@ -115,5 +117,25 @@ impl Types {
         ensures keeps { KeepsTypes self.old self.new }
     {
         instance_in(&self.none, &mut self.own, self.alloc, t, s.as_slice())
+    }
+
+    /// The least extension of s that gives each type variable of the pattern a type, so that with these the pattern is
+    /// the type; each other extension that does so extends it. None exactly where under no extension of s the pattern is
+    /// the type. It takes one step for each distinct part of the pattern.
+    pub fn match_type(
+        &self,
+        pattern: TypeId,
+        t: TypeId,
+        s: &Subst,
+    ) -> Result<Option<Subst>, AllocError>
+        requires pattern { HasType self.now pattern }
+        requires there { HasType self.now t }
+        requires subst { HasSubst self.now s.now }
+        ensures there { IfOk result (λ found. IfSome found (λ u. HasSubst self.now u)) }
+        ensures least { IfOk result (λ found. IfSome found (λ u. IsLeast (Matches (type_tree self.now pattern) (type_tree self.now t)) (subst_tree self.now s.now) (subst_tree self.now u))) }
+        ensures once { IfOk result (λ found. IfSome found (λ u. NamesOnce s.now → NamesOnce u)) }
+        ensures none { IfOk result (λ found. found ≡ None → NeverIs (subst_tree self.now s.now) (type_tree self.now pattern) (type_tree self.now t)) }
+    {
+        match_in(&self.none, &self.own, self.alloc, pattern, t, s.as_slice())
     }
 }

@@ -288,6 +288,15 @@ impl<'b> Terms for Kernel<'b> {
         made
     }
 
+    fn match_type(
+        &self,
+        pattern: TypeId,
+        t: TypeId,
+        s: &Subst,
+    ) -> Result<Option<Subst>, AllocError> {
+        self.store().match_type(pattern, t, s)
+    }
+
     fn intern(&mut self, node: Node) -> Result<TermId, TermFault> {
         let made = self.store.intern(node);
         made
