@@ -1,11 +1,12 @@
 -- A store that goes on: the laws of keeping.
-use Rattle.std.proofs.Common.{◌≡◌, ℕ, ◌≤◌, List, length, take, refl, ap, ◌∙◌, arith}
+use Rattle.std.proofs.Common.{◌≡◌, ℕ, ◌≤◌, List, length, take, refl, sym, subst, ap, ◌∙◌, arith}
 use Rattle.std.proofs.lemmas.List.{length-take, length-take-le}
 use Rattle.hol_types.specs.KeepsTypes.{KeepsTypes}
 use Rattle.hol_types.specs.TypeSubst.{HasSubst, subst_tree}
-use Rattle.hol_types.proofs.InstanceLemmas.{has_subst_kept, subst_tree_kept}
+use Rattle.hol_types.specs.Instance.{AllTypeInstances, Made}
+use Rattle.hol_types.proofs.InstanceLemmas.{has_subst_kept, subst_tree_kept, type_instances_kept}
 use Rattle.hol_types.proofs.MarkLemmas.{fits_kept as types_fit}
-use Rattle.hol_terms.specs.TermStore.{TermStore, Keeps, FitsMark, cut}
+use Rattle.hol_terms.specs.TermStore.{TermStore, IsTermStore, Keeps, FitsMark, StoreState, MayReset, cut}
 use Rattle.hol_terms.specs.declared.tables.Mark.{Mark}
 
 -- a list whose first items are those of another has them
@@ -61,3 +62,17 @@ subst_kept {s} {u} k ps h = has_subst_kept s.types u.types (keeps_types k) ps h
 
 pub subst_same : {s u : TermStore} → Keeps s u → (ps : List (ℕ × ℕ)) → HasSubst s.types ps → subst_tree u.types ps ≡ subst_tree s.types ps
 subst_same {s} {u} k ps h = subst_tree_kept s.types u.types (keeps_types k) ps h
+
+-- what was made of types stays right
+pub made_kept : {s u : TermStore} {ps : List (ℕ × ℕ)} {m : Made} → Keeps s u → HasSubst s.types ps → AllTypeInstances s.types ps m → AllTypeInstances u.types ps m
+made_kept k subst all = type_instances_kept (keeps_types k) subst all
+
+-- a store that goes on may still be reset to a mark
+pub may_reset_kept : {s u : StoreState} → {m : Mark} → Keeps s.store u.store → u.base ≡ s.base → MayReset m s → MayReset m u
+may_reset_kept {s} {u} {m} keeps same may =
+    let e = keeps.back m may.fits in
+    record {
+      base = rw same may.base;
+      fits = fits_kept s.store u.store m may.fits e;
+      lawful = subst (λ v. IsTermStore v) (sym e) may.lawful;
+    }

@@ -133,6 +133,13 @@ pub record FitsMark (m : Mark) (s : TermStore) : Type 0 where
   pub tys : m.nodes ≤ length s.tys
   pub reaches : m.nodes ≤ length s.reaches
 
+-- the second mark isn't below the first
+pub record IsBelow (low m : Mark) : Type 0 where
+  pub names : low.types.names ≤ m.types.names
+  pub arities : low.types.arities ≤ m.types.arities
+  pub types : low.types.nodes ≤ m.types.nodes
+  pub nodes : low.nodes ≤ m.nodes
+
 -- each number given before stays, and stands for what it stood for
 pub record Keeps (old new : TermStore) : Type 0 where
   -- each name is still there
@@ -151,3 +158,16 @@ pub record Keeps (old new : TermStore) : Type 0 where
   pub trees : (t : ℕ) → HasTerm old t → term_tree new t ≡ term_tree old t
   -- what was held at a mark is held there still
   pub back : (m : Mark) → FitsMark m old → cut m new ≡ cut m old
+
+-- ---- a store over a base
+
+-- what a store over a base holds, and how much of it is the base's
+pub record StoreState : Type 0 where
+  pub store : TermStore
+  pub base : Mark
+
+-- what was held at the mark is a store, which has the base's part whole
+pub record MayReset (m : Mark) (s : StoreState) : Type 0 where
+  pub base : IsBelow s.base m
+  pub fits : FitsMark m s.store
+  pub lawful : IsTermStore (cut m s.store)

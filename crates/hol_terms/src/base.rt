@@ -4,17 +4,17 @@ ghost use Rattle.hol_types.specs.TypeStore.{HasName, HasType, HasArity, NamesApa
 ghost use Rattle.hol_types.specs.TypeStore as types;
 ghost use Rattle.hol_terms.specs.Term.{Typed, ty_of};
 ghost use Rattle.hol_terms.specs.Substitution.{IsClosed};
-ghost use Rattle.hol_terms.specs.TermStore.{IsTermStore, TermsApart, empty_store, term_tree, tree_of, HasTerm, PartsBelow};
+ghost use Rattle.hol_terms.specs.TermStore.{TermStore, IsTermStore, TermsApart, empty_store, term_tree, tree_of, HasTerm, PartsBelow, Keeps, FitsMark, MayReset, cut, mark_of};
 
 use crate::intern::intern_in;
 use crate::node::{Node, TermId};
-use crate::tables::{TermTables, known_node_in, reach_in, ty_in};
+use crate::tables::{Mark, TermTables, known_node_in, mark_in, reach_in, reset_in, ty_in};
 use crate::terms::Terms;
 use crate::type_tables::{
-    declare_in, instance_in, intern_type_in, match_type_in, name_in, text_in, type_node_in,
+    declare_in, instance_part_in, intern_type_in, match_type_in, name_in, text_in, type_node_in,
 };
 use crate::typed::TermFault;
-use hol_types::{NameId, Subst, TypeFault, TypeId, TypeNode};
+use hol_types::{NameId, Subst, TypeFault, TypeId, TypeInstances, TypeNode};
 use std::alloc::{AllocError, Global};
 use std::marker::Model;
 
@@ -57,11 +57,11 @@ pub struct Store<'b> {
 }
 
 impl<'b> Model for Store<'b> {
-    ghost use Rattle.hol_terms.specs.TermStore.{TermStore, IsTermStore, joined};
+    ghost use Rattle.hol_terms.specs.TermStore.{StoreState, IsTermStore, joined, mark_of};
 
-    ghost Value = { TermStore };
+    ghost Value = { StoreState };
 
-    ghost view = { λ s. joined s.base.now s.own };
+    ghost view = { λ s. record { store = joined s.base.now s.own; base = mark_of s.base.now } };
 
     ghost invariant = { λ s. IsTermStore (joined s.base.now s.own) };
 }
@@ -156,13 +156,35 @@ impl Frozen {
 impl<'b> Store<'b> {
     /// A store that holds what the base does: the base's numbers stand for the same here.
     pub fn over(alloc: Global, base: &'b Frozen) -> Store<'b>
-        ensures { result ≡ base.now }
+        ensures store { result.store ≡ base.now }
+        ensures base { result.base ≡ mark_of base.now }
     {
         let _tables = base.tables();
         Store {
             base,
             own: TermTables::new(alloc),
         }
+    }
+
+    /// How much the store holds now: `reset` takes it back to here.
+    pub fn mark(&self) -> Mark
+        ensures mark { result ≡ mark_of self.now.store }
+        ensures whole { cut result self.now.store ≡ self.now.store }
+        ensures may_reset { MayReset result self.now }
+    {
+        mark_in(self.base.tables(), &self.own)
+    }
+
+    /// Takes away all names, declared constructors, types and terms that came after the mark, which is one that this store
+    /// gave and went on from. What was there at the mark stays in its place, and is found by interning as it was then. It
+    /// takes a step for each item that goes.
+    pub fn reset(&mut self, m: Mark)
+        requires { MayReset m self.old }
+        ensures store { self.new.store ≡ cut m self.old.store }
+        ensures base { self.new.base ≡ self.old.base }
+        ensures back { (was : TermStore) → FitsMark m was → cut m was ≡ was → Keeps was self.old.store → self.new.store ≡ was }
+    {
+        reset_in(self.base.tables(), &mut self.own, m);
     }
 }
 
@@ -197,8 +219,13 @@ impl Terms for Base {
         type_node_in(&self.none, &self.own, t)
     }
 
-    fn instance(&mut self, t: TypeId, s: &Subst) -> Result<TypeId, AllocError> {
-        instance_in(&self.none, &mut self.own, t, s)
+    fn instance_part(
+        &mut self,
+        memo: &mut TypeInstances,
+        t: TypeId,
+        s: &Subst,
+    ) -> Result<TypeId, AllocError> {
+        instance_part_in(&self.none, &mut self.own, memo, t, s)
     }
 
     fn match_type(
@@ -228,11 +255,11 @@ impl Terms for Base {
 }
 
 impl<'b> Terms for Store<'b> {
-    type Rest = ();
+    type Rest = Mark;
 
-    ghost store = { λ s. s };
+    ghost store = { λ s. s.store };
 
-    ghost rest = { λ s. tt };
+    ghost rest = { λ s. s.base };
 
     fn allocator(&self) -> Global {
         self.own.allocator()
@@ -258,8 +285,13 @@ impl<'b> Terms for Store<'b> {
         type_node_in(self.base.tables(), &self.own, t)
     }
 
-    fn instance(&mut self, t: TypeId, s: &Subst) -> Result<TypeId, AllocError> {
-        instance_in(self.base.tables(), &mut self.own, t, s)
+    fn instance_part(
+        &mut self,
+        memo: &mut TypeInstances,
+        t: TypeId,
+        s: &Subst,
+    ) -> Result<TypeId, AllocError> {
+        instance_part_in(self.base.tables(), &mut self.own, memo, t, s)
     }
 
     fn match_type(

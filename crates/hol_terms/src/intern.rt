@@ -14,6 +14,7 @@ fn intern_step(base: &TermTables, own: &mut TermTables, node: Node) -> Result<Te
     ensures tree { IfOk result (λ t. term_tree (joined base.now own.new) t ≡ tree_of (joined base.now own.old) node) }
     ensures typed { OnOk result (Typed (tree_of (joined base.now own.old) node)) }
     ensures ill { IfErr result (λ e. e ≡ TermFault.Ill → Typed (tree_of (joined base.now own.old) node) → ⊥) }
+    ensures refused { IfErr result (λ e. e ≡ TermFault.Ill → own.new ≡ own.old) }
     ensures lawful { IsTermStore (joined base.now own.new) }
     ensures grows { GrowsTo (joined base.now own.old) (joined base.now own.new) }
 {
@@ -40,6 +41,7 @@ pub(crate) fn intern_in(
     ensures tree { IfOk result (λ t. term_tree (joined base.now own.new) t ≡ tree_of (joined base.now own.old) node) }
     ensures typed { OnOk result (Typed (tree_of (joined base.now own.old) node)) }
     ensures ill { IfErr result (λ e. e ≡ TermFault.Ill → Typed (tree_of (joined base.now own.old) node) → ⊥) }
+    ensures refused { IfErr result (λ e. e ≡ TermFault.Ill → own.new ≡ own.old) }
     ensures apart { TermsApart (joined base.now own.new) }
     ensures lawful { IsTermStore (joined base.now own.new) }
     ensures keeps { Keeps (joined base.now own.old) (joined base.now own.new) }

@@ -16,8 +16,6 @@ mod parts;
 mod subst;
 mod tables;
 mod terms;
-#[cfg(test)]
-mod tests;
 mod type_tables;
 mod typed;
 mod typed_terms;

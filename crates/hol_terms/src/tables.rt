@@ -1,5 +1,6 @@
 //! What is kept of terms, the numbers going on from those of another store.
 ghost use Rattle.std.specs.Prelude.{◌≡◌, ◌<◌, length, slice_get, MatchOption, IfOk, OnErr, Some};
+ghost use Rattle.hol_terms.specs.TermStore.{mark_of, cut, FitsMark, IsBelow};
 ghost use Rattle.hol_types.specs.Once.{Absent};
 ghost use Rattle.hol_types.specs.TypeStore.{HasType, TreesApart, type_tree};
 ghost use Rattle.hol_terms.specs.Term.{Typed, ty_of};
@@ -170,4 +171,30 @@ pub(crate) fn add_in(
     own.tys.push_reserved(ty);
     own.reaches.push_reserved(reach);
     Ok(TermId::new(at))
+}
+
+/// How much is held now.
+pub(crate) fn mark_in(base: &TermTables, own: &TermTables) -> Mark
+    requires { IsTermStore (joined base.now own.now) }
+    ensures mark { result ≡ mark_of (joined base.now own.now) }
+    ensures below { IsBelow (mark_of base.now) result }
+    ensures fits { FitsMark result (joined base.now own.now) }
+    ensures whole { cut result (joined base.now own.now) ≡ joined base.now own.now }
+{
+    Mark {
+        types: types::mark_in(&base.types, &own.types),
+        nodes: base.nodes.len() + own.nodes.len(),
+    }
+}
+
+/// Takes away what came after the mark.
+pub(crate) fn reset_in(base: &TermTables, own: &mut TermTables, mark: Mark)
+    requires lawful { IsTermStore base.now }
+    requires below { IsBelow (mark_of base.now) mark }
+    ensures { joined base.now own.new ≡ cut mark (joined base.now own.old) }
+{
+    types::reset_in(&base.types, &mut own.types, mark.types);
+    own.nodes.truncate(mark.nodes - base.nodes.len());
+    own.tys.truncate(mark.nodes - base.tys.len());
+    own.reaches.truncate(mark.nodes - base.reaches.len());
 }

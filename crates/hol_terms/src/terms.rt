@@ -1,13 +1,14 @@
 //! What keeps terms, however it is kept.
-ghost use Rattle.std.specs.Prelude.{◌≡◌, ℕ, ◌↔◌, IsTrue, IfOk, IfSome, OnOk, IfErr, Some, None};
+ghost use Rattle.std.specs.Prelude.{◌≡◌, ℕ, ◌↔◌, IsTrue, IfOk, IfSome, OnOk, OnErr, IfErr, Some, None, false};
 ghost use Rattle.hol_types.specs.TypeStore.{HasName, HasType, HasArity, HasTypeParts, NamesApart, TreesApart, arity_of, text_of, type_tree};
 ghost use Rattle.hol_types.specs.TypeStore as types;
 ghost use Rattle.hol_types.specs.TypeSubst.{HasSubst, NamesOnce, subst_tree, instance_of};
+ghost use Rattle.hol_types.specs.Instance.{AllTypeInstances};
 ghost use Rattle.hol_types.specs.TypeMatch.{Matches, IsLeast, NeverIs};
 ghost use Rattle.hol_terms.specs.Term.{BoundsFit, Typed, ty_of};
 ghost use Rattle.hol_terms.specs.Reach.{reach_of};
-ghost use Rattle.hol_terms.specs.Substitution.{close_free, free_variables, subst_bound, subst_free, subst_types, IsClosed};
-ghost use Rattle.hol_terms.specs.Formula.{In};
+ghost use Rattle.hol_terms.specs.Substitution.{close_free, free_variables, subst_bound, subst_free, subst_types, IsClosed, IsFreeVariable};
+ghost use Rattle.hol_terms.specs.Formula.{In, NotFreeIn};
 ghost use Rattle.hol_terms.specs.TermStore.{TermStore, Keeps, TermsApart, term_tree, tree_of, HasTerm, HasParts, PartsBelow};
 
 use crate::close::close_part;
@@ -18,7 +19,7 @@ use crate::node::{Node, TermId};
 use crate::open::open_part;
 use crate::subst::subst_part;
 use crate::typed::TermFault;
-use hol_types::{NameId, Subst, TypeFault, TypeId, TypeNode};
+use hol_types::{NameId, Subst, TypeFault, TypeId, TypeInstances, TypeNode};
 use std::alloc::{AllocError, Global};
 use std::collections::{HashMap, HashSet};
 
@@ -44,7 +45,8 @@ pub trait Terms {
         ensures text { IfOk result (λ n. text_of (store self.new).types n ≡ text.now) }
         ensures names_apart { NamesApart (store self.new).types }
         ensures keeps { Keeps (store self.old) (store self.new) }
-        ensures rest { rest self.new ≡ rest self.old };
+        ensures rest { rest self.new ≡ rest self.old }
+        ensures err { OnErr result (store self.new ≡ store self.old) };
 
     /// The bytes of a name.
     fn text(&self, n: NameId) -> &[u8]
@@ -52,16 +54,19 @@ pub trait Terms {
         ensures text { text_of (store self.now).types n ≡ result.now }
         ensures names_apart { NamesApart (store self.now).types };
 
-    /// Declares a type constructor with so many arguments. False exactly where its name is declared already.
+    /// Declares a type constructor with so many arguments. False, and nothing changes, exactly where its name is declared
+    /// already.
     fn declare(&mut self, n: NameId, arity: u32) -> Result<bool, AllocError>
         ensures fresh { IfOk result (λ fresh. IsTrue fresh ↔ (arity_of (store self.old).types n ≡ None)) }
         ensures arity { IfOk result (λ fresh. IsTrue fresh → arity_of (store self.new).types n ≡ Some arity) }
         ensures others { (m : ℕ) → (m ≡ n → ⊥) → arity_of (store self.new).types m ≡ arity_of (store self.old).types m }
+        ensures declared { IfOk result (λ fresh. fresh ≡ false → store self.new ≡ store self.old) }
         ensures keeps { Keeps (store self.old) (store self.new) }
-        ensures rest { rest self.new ≡ rest self.old };
+        ensures rest { rest self.new ≡ rest self.old }
+        ensures err { OnErr result (store self.new ≡ store self.old) };
 
     /// The number of a type, given by the numbers of its parts. It is added where it is new.
-    /// Arity exactly where a constructor isn't declared with this number of arguments.
+    /// Arity exactly where a constructor isn't declared with this number of arguments. On an error nothing changes.
     fn intern_type(&mut self, node: TypeNode) -> Result<TypeId, TypeFault>
         requires { HasTypeParts (store self.old).types node }
         ensures there { IfOk result (λ t. HasType (store self.new).types t) }
@@ -70,7 +75,8 @@ pub trait Terms {
         ensures arity { IfErr result (λ e. e ≡ TypeFault.Arity → HasArity (store self.old).types node → ⊥) }
         ensures types_apart { TreesApart (store self.new).types }
         ensures keeps { Keeps (store self.old) (store self.new) }
-        ensures rest { rest self.new ≡ rest self.old };
+        ensures rest { rest self.new ≡ rest self.old }
+        ensures err { OnErr result (store self.new ≡ store self.old) };
 
     /// A type by the numbers of its parts.
     fn type_node(&self, t: TypeId) -> &TypeNode
@@ -80,14 +86,36 @@ pub trait Terms {
         ensures has_arity { HasArity (store self.now).types result.now }
         ensures types_apart { TreesApart (store self.now).types };
 
-    /// The type with the given types for its variables.
-    fn instance(&mut self, t: TypeId, s: &Subst) -> Result<TypeId, AllocError>
+    /// The type with the given types for its variables, where the memo has what was made of types before with the same s. It
+    /// takes one step for each distinct part that isn't among these.
+    fn instance_part(
+        &mut self,
+        memo: &mut TypeInstances,
+        t: TypeId,
+        s: &Subst,
+    ) -> Result<TypeId, AllocError>
+        requires there { HasType (store self.old).types t }
+        requires subst { HasSubst (store self.old).types s.now }
+        requires memo { AllTypeInstances (store self.old).types s.now memo.old }
+        ensures there { IfOk result (λ r. HasType (store self.new).types r) }
+        ensures tree { IfOk result (λ r. type_tree (store self.new).types r ≡ instance_of (subst_tree (store self.old).types s.now) (type_tree (store self.old).types t)) }
+        ensures keeps { Keeps (store self.old) (store self.new) }
+        ensures rest { rest self.new ≡ rest self.old }
+        ensures memo { OnOk result (AllTypeInstances (store self.new).types s.now memo.new) };
+
+    /// The type with the given types for its variables. It takes one step for each distinct part.
+    final fn instance(&mut self, t: TypeId, s: &Subst) -> Result<TypeId, AllocError>
         requires there { HasType (store self.old).types t }
         requires subst { HasSubst (store self.old).types s.now }
         ensures there { IfOk result (λ r. HasType (store self.new).types r) }
         ensures tree { IfOk result (λ r. type_tree (store self.new).types r ≡ instance_of (subst_tree (store self.old).types s.now) (type_tree (store self.old).types t)) }
         ensures keeps { Keeps (store self.old) (store self.new) }
-        ensures rest { rest self.new ≡ rest self.old };
+        ensures rest { rest self.new ≡ rest self.old }
+    {
+        let mut memo = HashMap::new(self.allocator());
+        let r = self.instance_part(&mut memo, t, s)?;
+        Ok(r)
+    }
 
     /// The least extension of s that gives each type variable of the pattern a type, so that with these the pattern is
     /// the type; each other extension that does so extends it. None exactly where under no extension of s the pattern is
@@ -103,13 +131,14 @@ pub trait Terms {
 
     /// The number of a term, given by the numbers of its parts. It is added where it is new.
     /// Ill exactly where it isn't typed: an application doesn't fit, a Bound doesn't have its binder's type, or a number
-    /// isn't below 2^127 in absolute value.
+    /// isn't below 2^127 in absolute value; then nothing changes.
     fn intern(&mut self, node: Node) -> Result<TermId, TermFault>
         requires { HasParts (store self.old) node }
         ensures there { IfOk result (λ t. HasTerm (store self.new) t) }
         ensures tree { IfOk result (λ t. term_tree (store self.new) t ≡ tree_of (store self.old) node) }
         ensures typed { OnOk result (Typed (tree_of (store self.old) node)) }
         ensures ill { IfErr result (λ e. e ≡ TermFault.Ill → Typed (tree_of (store self.old) node) → ⊥) }
+        ensures refused { IfErr result (λ e. e ≡ TermFault.Ill → store self.new ≡ store self.old) }
         ensures apart { TermsApart (store self.new) }
         ensures keeps { Keeps (store self.old) (store self.new) }
         ensures rest { rest self.new ≡ rest self.old };
@@ -173,7 +202,8 @@ pub trait Terms {
         Ok(r)
     }
 
-    /// The term with the given types for its type variables. It takes one step for each distinct part.
+    /// The term with the given types for its type variables. It takes one step for each distinct part of the term and of
+    /// its types.
     final fn instantiate(&mut self, t: TermId, s: &Subst) -> Result<TermId, AllocError>
         requires term { HasTerm (store self.old) t }
         requires subst { HasSubst (store self.old).types s.now }
@@ -183,12 +213,14 @@ pub trait Terms {
         ensures rest { rest self.new ≡ rest self.old }
     {
         let mut memo = HashMap::new(self.allocator());
-        let r = instantiate_part(self, &mut memo, t, s)?;
+        let mut types = HashMap::new(self.allocator());
+        let r = instantiate_part(self, &mut memo, &mut types, t, s)?;
         Ok(r)
     }
 
     /// The body of a lambda with u for its bound variable, which has u's type; u has no loose Bound. It takes one step
-    /// for each distinct part of the body, and each number of binders around it, that the variable stands in.
+    /// for each distinct part of the body, and each number of binders around it, that the variable stands in. Where u is a
+    /// free variable that isn't in the body, closing the result over u gives the body back.
     final fn open(&mut self, body: TermId, u: TermId) -> Result<TermId, AllocError>
         requires body { HasTerm (store self.old) body }
         requires new { HasTerm (store self.old) u }
@@ -196,6 +228,7 @@ pub trait Terms {
         requires fits { BoundsFit (term_tree (store self.old) body) 0 (ty_of (term_tree (store self.old) u)) }
         ensures there { IfOk result (λ r. HasTerm (store self.new) r) }
         ensures tree { IfOk result (λ r. term_tree (store self.new) r ≡ subst_bound (term_tree (store self.old) body) 0 (term_tree (store self.old) u)) }
+        ensures back { IfOk result (λ r. IsFreeVariable (term_tree (store self.old) u) → NotFreeIn (term_tree (store self.old) u) (term_tree (store self.old) body) → close_free (term_tree (store self.new) r) 0 (term_tree (store self.old) u) ≡ term_tree (store self.old) body) }
         ensures keeps { Keeps (store self.old) (store self.new) }
         ensures rest { rest self.new ≡ rest self.old }
     {
@@ -210,13 +243,14 @@ pub trait Terms {
     }
 
     /// The body whose Bound 0 was the free variable v. It takes one step for each distinct part of the term and each
-    /// number of binders around it.
+    /// number of binders around it. Where the term has no loose Bound, opening the result with v gives the term back.
     final fn close(&mut self, t: TermId, v: TermId) -> Result<TermId, AllocError>
         requires term { HasTerm (store self.old) t }
         requires variable { HasTerm (store self.old) v }
         ensures there { IfOk result (λ r. HasTerm (store self.new) r) }
         ensures tree { IfOk result (λ r. term_tree (store self.new) r ≡ close_free (term_tree (store self.old) t) 0 (term_tree (store self.old) v)) }
         ensures fits { IfOk result (λ r. IsClosed (term_tree (store self.old) t) → BoundsFit (term_tree (store self.new) r) 0 (ty_of (term_tree (store self.old) v))) }
+        ensures back { IfOk result (λ r. IsClosed (term_tree (store self.old) t) → subst_bound (term_tree (store self.new) r) 0 (term_tree (store self.old) v) ≡ term_tree (store self.old) t) }
         ensures keeps { Keeps (store self.old) (store self.new) }
         ensures rest { rest self.new ≡ rest self.old }
     {

@@ -1,14 +1,15 @@
 //! Names and types in the tables of terms.
-ghost use Rattle.std.specs.Prelude.{◌≡◌, ℕ, ◌↔◌, IsTrue, IfOk, IfSome, OnOk, OnErr, IfErr, Some, None};
+ghost use Rattle.std.specs.Prelude.{◌≡◌, ℕ, ◌↔◌, IsTrue, IfOk, IfSome, OnOk, OnErr, IfErr, Some, None, false};
 ghost use Rattle.hol_types.specs.TypeStore.{HasName, HasType, HasTypeParts, HasArity, NamesApart, TreesApart, arity_of, text_of, type_tree};
 ghost use Rattle.hol_types.specs.TypeStore as types;
 ghost use Rattle.hol_types.specs.TypeSubst.{HasSubst, NamesOnce, subst_tree, instance_of};
+ghost use Rattle.hol_types.specs.Instance.{AllTypeInstances};
 ghost use Rattle.hol_types.specs.TypeMatch.{Matches, IsLeast, NeverIs};
 ghost use Rattle.hol_terms.specs.TermStore.{IsTermStore, GrowsTo, Keeps, joined};
 
 use crate::tables::TermTables;
 use hol_types as types;
-use hol_types::{NameId, Subst, TypeFault, TypeId, TypeNode};
+use hol_types::{NameId, Subst, TypeFault, TypeId, TypeInstances, TypeNode};
 use std::alloc::AllocError;
 
 /// The number of a name, which may be new.
@@ -23,6 +24,7 @@ pub(crate) fn name_in(
     ensures apart { NamesApart (joined base.now own.new).types }
     ensures lawful { IsTermStore (joined base.now own.new) }
     ensures keeps { Keeps (joined base.now own.old) (joined base.now own.new) }
+    ensures err { OnErr result (own.new ≡ own.old) }
 {
     types::name_in(&base.types, &mut own.types, text)
 }
@@ -48,8 +50,10 @@ pub(crate) fn declare_in(
     ensures fresh { IfOk result (λ fresh. IsTrue fresh ↔ (arity_of (joined base.now own.old).types n ≡ None)) }
     ensures arity { IfOk result (λ fresh. IsTrue fresh → arity_of (joined base.now own.new).types n ≡ Some arity) }
     ensures others { (m : ℕ) → (m ≡ n → ⊥) → arity_of (joined base.now own.new).types m ≡ arity_of (joined base.now own.old).types m }
+    ensures declared { IfOk result (λ fresh. fresh ≡ false → joined base.now own.new ≡ joined base.now own.old) }
     ensures lawful { IsTermStore (joined base.now own.new) }
     ensures keeps { Keeps (joined base.now own.old) (joined base.now own.new) }
+    ensures err { OnErr result (own.new ≡ own.old) }
 {
     types::declare_in(&base.types, &mut own.types, n, arity)
 }
@@ -88,23 +92,26 @@ pub(crate) fn type_node_in<'a>(base: &'a TermTables, own: &'a TermTables, t: Typ
     types::node_in(&base.types, &own.types, t)
 }
 
-/// The type with the given types for its variables.
-pub(crate) fn instance_in(
+/// The type with the given types for its variables, where the memo has what was made of types before.
+pub(crate) fn instance_part_in(
     base: &TermTables,
     own: &mut TermTables,
+    memo: &mut TypeInstances,
     t: TypeId,
     s: &Subst,
 ) -> Result<TypeId, AllocError>
     requires lawful { IsTermStore (joined base.now own.old) }
     requires there { HasType (joined base.now own.old).types t }
     requires subst { HasSubst (joined base.now own.old).types s.now }
+    requires memo { AllTypeInstances (joined base.now own.old).types s.now memo.old }
     ensures there { IfOk result (λ r. HasType (joined base.now own.new).types r) }
     ensures tree { IfOk result (λ r. type_tree (joined base.now own.new).types r ≡ instance_of (subst_tree (joined base.now own.old).types s.now) (type_tree (joined base.now own.old).types t)) }
     ensures lawful { IsTermStore (joined base.now own.new) }
     ensures keeps { Keeps (joined base.now own.old) (joined base.now own.new) }
+    ensures memo { OnOk result (AllTypeInstances (joined base.now own.new).types s.now memo.new) }
 {
     let alloc = own.allocator();
-    types::instance_in(&base.types, &mut own.types, alloc, t, s.as_slice())
+    types::instance_part(&base.types, &mut own.types, alloc, memo, t, s.as_slice())
 }
 
 /// The least types for the type variables of a pattern that go on from the given ones and make it the type.

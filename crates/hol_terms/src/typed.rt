@@ -106,6 +106,7 @@ pub(crate) fn typed_in(
     requires parts { HasParts (joined base.now own.old) node }
     ensures typed { OnOk result (Typed (tree_of (joined base.now own.old) node)) }
     ensures ill { IfErr result (λ e. e ≡ TermFault.Ill → Typed (tree_of (joined base.now own.old) node) → ⊥) }
+    ensures refused { IfErr result (λ e. e ≡ TermFault.Ill → own.new ≡ own.old) }
     ensures there { IfOk result (λ t. HasType (joined base.now own.new).types t) }
     ensures ty { IfOk result (λ t. type_tree (joined base.now own.new).types t ≡ ty_of (tree_of (joined base.now own.old) node)) }
     ensures lawful { IsTermStore (joined base.now own.new) }

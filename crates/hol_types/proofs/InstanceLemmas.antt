@@ -1,7 +1,8 @@
 -- What instances need of a store that goes on.
-use Rattle.std.proofs.Common.{◌≡◌, ℕ, ◌<◌, get_or, List, [], ◌∷◌, ◌++◌, length, Some, None, cond, Bool as Truth, true, false, refl, sym, ap, ◌∙◌, subst, arith, unwrap_or, option_map, length-append, zero, suc, bytes_eq}
+use Rattle.std.proofs.Common.{◌≡◌, ℕ, ◌<◌, get_or, List, [], ◌∷◌, ◌++◌, length, Some, None, cond, Bool as Truth, true, false, refl, sym, ap, ◌∙◌, subst, arith, unwrap_or, option_map, nat_eq, length-append, zero, suc, bytes_eq}
 use Rattle.std.specs.List.{AllByRecursion}
 use Rattle.std.specs.Map.{lookup}
+use Rattle.std.specs.HashMap.{get_by}
 use Rattle.std.proofs.Math.Dec.{eqb}
 use Rattle.std.proofs.lemmas.Bool.Decides.{same_from_decides, Decides-eqb}
 use Rattle.std.proofs.lemmas.Slice.Eq.{bytes_eq-Decides}
@@ -10,8 +11,8 @@ use Rattle.hol_types.specs.Ty.{Ty, Tys, VarTy, no_types, more_types}
 use Rattle.hol_types.specs.TypeStore.{TypeStore, IsTypeStore, HasName, HasType, type_tree, text_of, trees_at}
 use Rattle.hol_types.specs.KeepsTypes.{KeepsTypes}
 use Rattle.hol_types.specs.TypeSubst.{TypeSubst, HasSubst, subst_tree, type_for, instance_of, instances_of}
-use Rattle.hol_types.specs.Instance.{AreInstances}
-use Rattle.hol_types.proofs.TypeLemmas.{names_apart}
+use Rattle.hol_types.specs.Instance.{AreInstances, IsTypeInstance, AllTypeInstances, Made}
+use Rattle.hol_types.proofs.TypeLemmas.{names_apart, eqb_sound}
 
 -- a substitution stays, and stands for what it stood for
 pub has_subst_kept : (s u : TypeStore) → KeepsTypes s u → (ps : List (ℕ × ℕ)) → HasSubst s ps → HasSubst u ps
@@ -101,3 +102,25 @@ pub all_at : (P : ℕ → Type 0) (ts : List ℕ) → AllByRecursion P ts → (i
 all_at P [] all i d below = absurd (omega arith)
 all_at P (t ∷ ts) all zero d below = all.0
 all_at P (t ∷ ts) all (suc i) d below = all_at P ts all.1 i d (omega arith)
+
+-- ---- what is remembered
+
+pub type_instances_kept : {s u : TypeStore} {ps : List (ℕ × ℕ)} {m : Made} → KeepsTypes s u → HasSubst s ps → AllTypeInstances s ps m → AllTypeInstances u ps m
+type_instances_kept {s} {u} {ps} {m} keeps subst all = record {
+  each = λ t r h.
+      let is = all.each t r h in
+      let same = subst_tree_kept s u keeps ps subst in
+      record {
+        there = keeps.types t is.there;
+        made = keeps.types r is.made;
+        tree = keeps.trees r is.made ∙ is.tree ∙ (λ i. instance_of (sym same i) (sym (keeps.trees t is.there) i));
+      };
+}
+
+-- one more
+pub type_instances_put : (s : TypeStore) (ps : List (ℕ × ℕ)) (m n : Made) (t r : ℕ) → AllTypeInstances s ps m → ((q : ℕ) → get_by (nat_eq q) n ≡ cond (nat_eq t q) (Some r) (get_by (nat_eq q) m)) → IsTypeInstance s ps t r → AllTypeInstances s ps n
+type_instances_put s ps m n t r old puts here = record { each = λ q u h. by q u (eqb t q) refl (sym (puts q) ∙ h) }
+  where
+    by : (q u : ℕ) (b : Truth) → eqb t q ≡ b → cond b (Some r) (get_by (nat_eq q) m) ≡ Some u → IsTypeInstance s ps q u
+    by q u true e f = subst (λ z. IsTypeInstance s ps z u) (eqb_sound t q e) (subst (λ z. IsTypeInstance s ps t z) (same_Some r u f) here)
+    by q u false e f = old.each q u f

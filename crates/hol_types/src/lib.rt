@@ -11,12 +11,10 @@ mod room;
 mod send;
 mod table;
 mod tables;
-#[cfg(test)]
-mod tests;
 mod types;
 
 pub use file_name::FileName;
-pub use instance::{Subst, instance_in};
+pub use instance::{Subst, TypeInstances, instance_in, instance_part};
 pub use layer::{find_bytes_in, find_in, item_in, number, number_in, number_of_bytes};
 pub use list::{Bytes, List};
 pub use matching::match_in;

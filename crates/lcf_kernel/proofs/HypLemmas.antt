@@ -1,12 +1,12 @@
 -- Hypotheses by numbers, and as sets of formulas.
-use Rattle.std.proofs.Common.{◌≡◌, ◌++◌, ◌∙◌, [], refl, sym, subst, ap, ◌⊎◌, ⊎_elim, ℕ, List, inl, inr, filter, not, true, false, Bool as Truth}
+use Rattle.std.proofs.Common.{◌≡◌, ◌++◌, ◌∙◌, ◌∷◌, [], refl, sym, subst, ap, ◌⊎◌, ⊎_elim, ℕ, List, inl, inr, filter, not, true, false, Bool as Truth}
 use Rattle.std.proofs.Math.Dec.{eqb}
 use Rattle.std.specs.List.Sorted.{IsStrictlySortedBy}
 use Rattle.hol_types.proofs.TypeLemmas.{eqb_sound, eqb_complete}
 use Rattle.hol_terms.specs.Term.{Term}
 use Rattle.hol_terms.specs.TermStore.{TermStore, HasTerm, TermsApart, term_tree}
 use Rattle.hol_terms.specs.Formula.{In, IsFormula, AllFormulas, SameMembers, without}
-use Rattle.hol_terms.proofs.SetLemmas.{in_append_left, in_append_right, in_append_either, in_map, in_map_from, in_without, in_without_or, without_differs, formulas_both, same_refl}
+use Rattle.hol_terms.proofs.SetLemmas.{in_append_left, in_append_right, in_append_either, in_map, in_map_from, in_without, in_without_or, without_differs, formulas_both, same_refl, same_trans}
 use Rattle.lcf_kernel.specs.Hyps.{Rises, SameIds, stands}
 use Rattle.lcf_kernel.specs.KernelState.{KernelState, trees, HasThm, thm_at, hyps_of, context_of, HasFormulas, AreHyps, IsKernel, IsOutside, GivesHyps}
 use Rattle.lcf_kernel.proofs.IdLemmas.{In-filter, In-to_filter, stands-In, stands-from_In}
@@ -102,25 +102,23 @@ module _ (k : KernelState) (is : IsKernel k) where
   pub gives_same : (a : ℕ) → HasThm k a → GivesHyps k (thm_at k a).hyps (hyps_of k a)
   gives_same a h = gives (thm_at k a).hyps (hyps_of k a) (thm_is k is a h).hyps (same_refl (hyps_of k a))
 
-  -- those of two records
-  pub gives_union : (a b : ℕ) → HasThm k a → HasThm k b → (c : List ℕ) → Rises c → SameIds c ((thm_at k a).hyps ++ (thm_at k b).hyps) → GivesHyps k c (hyps_of k a ++ hyps_of k b)
-  gives_union a b has_a has_b c rises same = gives c (hyps_of k a ++ hyps_of k b) are (same_union k.store (thm_at k a).hyps (thm_at k b).hyps c same)
+  -- those of two lists
+  pub gives_both : (xs ys : List ℕ) → AreHyps k.store k.context xs → AreHyps k.store k.context ys → (c : List ℕ) → Rises c → SameIds c (xs ++ ys) → GivesHyps k c (trees k.store xs ++ trees k.store ys)
+  gives_both xs ys left right c rises same = gives c (trees k.store xs ++ trees k.store ys) are (same_union k.store xs ys c same)
     where
-      left : AreHyps k.store k.context (thm_at k a).hyps
-      left = (thm_is k is a has_a).hyps
-
-      right : AreHyps k.store k.context (thm_at k b).hyps
-      right = (thm_is k is b has_b).hyps
-
-      cases : (t : ℕ) → In t c → In t (thm_at k a).hyps ⊎ In t (thm_at k b).hyps
-      cases t h = in_append_either t (thm_at k a).hyps (thm_at k b).hyps (same.to t h)
+      cases : (t : ℕ) → In t c → In t xs ⊎ In t ys
+      cases t h = in_append_either t xs ys (same.to t h)
 
       are : AreHyps k.store k.context c
       are = record {
-        formulas = record { each = λ t h. ⊎_elim (λ (l : In t (thm_at k a).hyps). left.formulas.each t l) (λ (l : In t (thm_at k b).hyps). right.formulas.each t l) (cases t h) };
+        formulas = record { each = λ t h. ⊎_elim (λ (l : In t xs). left.formulas.each t l) (λ (l : In t ys). right.formulas.each t l) (cases t h) };
         rises = rises;
-        outside = λ t h out. ⊎_elim (λ (l : In t (thm_at k a).hyps). left.outside t l out) (λ (l : In t (thm_at k b).hyps). right.outside t l out) (cases t h);
+        outside = λ t h out. ⊎_elim (λ (l : In t xs). left.outside t l out) (λ (l : In t ys). right.outside t l out) (cases t h);
       }
+
+  -- those of two records
+  pub gives_union : (a b : ℕ) → HasThm k a → HasThm k b → (c : List ℕ) → Rises c → SameIds c ((thm_at k a).hyps ++ (thm_at k b).hyps) → GivesHyps k c (hyps_of k a ++ hyps_of k b)
+  gives_union a b has_a has_b c rises same = gives_both (thm_at k a).hyps (thm_at k b).hyps (thm_is k is a has_a).hyps (thm_is k is b has_b).hyps c rises same
 
   -- those of a record but one
   pub gives_without : TermsApart k.store → (a t : ℕ) → HasThm k a → HasTerm k.store t → (c : List ℕ) → (Rises (thm_at k a).hyps → Rises c) → c ≡ filter (λ u. not (eqb u t)) (thm_at k a).hyps → GivesHyps k c (without (term_tree k.store t) (hyps_of k a))
@@ -175,3 +173,35 @@ module _ (k : KernelState) (is : IsKernel k) where
             let there = (all.each p.0 (kept p.0 p.1).0).there in
             let same_id = apart p.0 q.0 there (is.context.formulas.each q.0 q.1).there (sym p.2 ∙ q.2) in
             (kept p.0 p.1).1 (subst (λ t. In t k.context) (sym same_id) q.1)
+
+-- ---- sets of hypotheses made of others
+
+pub same_append : {G G' H H' : List Term} → SameMembers G G' → SameMembers H H' → SameMembers (G ++ H) (G' ++ H')
+same_append {G} {G'} {H} {H'} left right = record {
+  to = λ t h. ⊎_elim (λ (i : In t G). in_append_left t G' H' (left.to t i)) (λ (i : In t H). in_append_right t G' H' (right.to t i)) (in_append_either t G H h);
+  from = λ t h. ⊎_elim (λ (i : In t G'). in_append_left t G H (left.from t i)) (λ (i : In t H'). in_append_right t G H (right.from t i)) (in_append_either t G' H' h);
+}
+
+-- the same set in other words
+pub gives_same_as : (k : KernelState) (c : List ℕ) {G G' H H' : List Term} → GivesHyps k c (G ++ H) → SameMembers G G' → SameMembers H H' → GivesHyps k c (G' ++ H')
+gives_same_as k c given left right = record { hyps = given.hyps; formulas = given.formulas; same = same_trans given.same (same_append left right) }
+
+-- one formula more, unless it stands in the context
+pub is_outside_with : (C : List Term) (t : Term) (N H K : List Term) → IsOutside C (t ∷ []) N → ((u : Term) → In u H → In u C → ⊥) → SameMembers K (N ++ H) → IsOutside C (t ∷ H) K
+is_outside_with C t N H K new apart same = record {
+  to = λ u h. ⊎_elim (λ (e : u ≡ t). ⊎_elim (λ (i : In u C). inl i) (λ (i : In u N). inr (same.from u (in_append_left u N H i))) (new.to u (inl e))) (λ (i : In u H). inr (same.from u (in_append_right u N H i))) h;
+  from = λ u h. ⊎_elim (λ (i : In u N). ⊎_elim (λ (e : u ≡ t). inl e) (λ j. absurd j) (new.from u i)) (λ (i : In u H). inr i) (in_append_either u N H (same.to u h));
+  apart = λ u h i. ⊎_elim (λ (j : In u N). new.apart u j i) (λ (j : In u H). apart u j i) (in_append_either u N H (same.to u h));
+}
+
+pub gives_own : {k : KernelState} {c : List ℕ} {G : List Term} → GivesHyps k c G → GivesHyps k c (trees k.store c)
+gives_own {k} {c} given = record { hyps = given.hyps; formulas = given.formulas; same = same_refl (trees k.store c) }
+
+-- the hypotheses of a record stand outside the context
+pub hyps_apart : (k : KernelState) → IsKernel k → TermsApart k.store → (a : ℕ) → HasThm k a → (u : Term) → In u (hyps_of k a) → In u (context_of k) → ⊥
+hyps_apart k is apart a has u h i =
+    let thm = thm_is k is a has in
+    let p = from_trees k.store u (thm_at k a).hyps h in
+    let q = from_trees k.store u k.context i in
+    let e : p.0 ≡ q.0 = apart p.0 q.0 (thm.hyps.formulas.each p.0 p.1).there (is.context.formulas.each q.0 q.1).there (sym p.2 ∙ q.2) in
+    thm.hyps.outside p.0 p.1 (subst (λ t. In t k.context) (sym e) q.1)

@@ -8,9 +8,11 @@ use Rattle.std.proofs.Math.Seq.{get_or-append_seam}
 use Rattle.hol_types.proofs.Places.{slice_get-push}
 use Rattle.hol_terms.specs.Term.{Term}
 use Rattle.hol_terms.specs.TermStore.{TermStore, term_tree, Keeps}
-use Rattle.lcf_kernel.specs.Constants.{IsAt, AreConstants}
+use Rattle.hol_types.specs.Ty.{Ty}
+use Rattle.lcf_kernel.specs.Constants.{IsAt, IsType, IsName, AreNames, AreConstants}
 use Rattle.lcf_kernel.specs.Hyps.{Rises, SameIds}
 use Rattle.lcf_kernel.specs.declared.formula.Constants.{Constants}
+use Rattle.lcf_kernel.specs.declared.formula.Names.{Names}
 use Rattle.lcf_kernel.specs.declared.kernel.Records.{Records}
 use Rattle.lcf_kernel.specs.declared.thm.Thm.{Thm}
 use Rattle.hol_terms.proofs.KeepsLemmas.{keeps_refl, keeps_trans}
@@ -30,8 +32,26 @@ module _ (s u : TermStore) (keeps : Keeps s u) where
   pub at_keeps : (t : ℕ) (tree : Term) → IsAt s t tree → IsAt u t tree
   at_keeps t tree h = record { there = keeps.terms t h.there; is = keeps.trees t h.there ∙ h.is }
 
+  pub type_keeps : (t : ℕ) (tree : Ty) → IsType s t tree → IsType u t tree
+  type_keeps t tree h = record { there = keeps.types t h.there; is = keeps.type_trees t h.there ∙ h.is }
+
+  pub name_keeps : (n : ℕ) (text : List ℕ) → IsName s n text → IsName u n text
+  name_keeps n text h = record { there = keeps.names n h.there; is = keeps.texts n h.there ∙ h.is }
+
+  pub names_keep : (n : Names) → AreNames s n → AreNames u n
+  names_keep n h = record { eq = name_keeps _ _ h.eq; ite = name_keeps _ _ h.ite; all = name_keeps _ _ h.all; ex = name_keeps _ _ h.ex; choice = name_keeps _ _ h.choice }
+
   pub constants_keep : (c : Constants) → AreConstants s c → AreConstants u c
-  constants_keep c h = record { imp = at_keeps _ _ h.imp; not = at_keeps _ _ h.not; falsity = at_keeps _ _ h.falsity }
+  constants_keep c h = record {
+    imp = at_keeps _ _ h.imp;
+    not = at_keeps _ _ h.not;
+    falsity = at_keeps _ _ h.falsity;
+    truth = at_keeps _ _ h.truth;
+    and = at_keeps _ _ h.and;
+    or = at_keeps _ _ h.or;
+    bool = type_keeps _ _ h.bool;
+    names = names_keep c.names h.names;
+  }
 
   pub formula_keeps : (t : ℕ) → HasFormula s t → HasFormula u t
   formula_keeps t h = record { there = keeps.terms t h.there; formula = rw (keeps.trees t h.there) h.formula }

@@ -18,11 +18,11 @@ right_formula a b f = record { typed = f.typed.1; closed = f.closed.1; bool = sy
 
 -- ---- the rules
 
-both_left : (p q : Bool) → (p && q) ≡ true → p ≡ true
+pub both_left : (p q : Bool) → (p && q) ≡ true → p ≡ true
 both_left true q h = refl
 both_left false q h = h
 
-both_right : (p q : Bool) → (p && q) ≡ true → q ≡ true
+pub both_right : (p q : Bool) → (p && q) ≡ true → q ≡ true
 both_right true q h = h
 both_right false q h = absurd (cc)
 

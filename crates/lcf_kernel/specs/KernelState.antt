@@ -2,7 +2,7 @@
 use Rattle.std.specs.Prelude.{◌≡◌, ℕ, ◌<◌, ◌⊎◌, ◌++◌, List, [], ◌∷◌, length, map, filter, slice_get, slice_index, slice_index_or, Some, Bool, true, false, IsTrue}
 use Rattle.hol_types.specs.Ty.{Ty, BoolTy}
 use Rattle.hol_terms.specs.Term.{Term, FreeTm, ty_of}
-use Rattle.hol_terms.specs.Constants.{false_tm}
+use Rattle.hol_terms.specs.Constants.{false_tm, disjunction}
 use Rattle.hol_terms.specs.declared.node.FreeKind.TheVariants.{Open}
 use Rattle.hol_terms.specs.Substitution.{free_variables}
 use Rattle.hol_terms.specs.TermStore.{TermStore, HasTerm, term_tree, Keeps}
@@ -183,3 +183,10 @@ pub record GivesHyps (k : KernelState) (numbers : List ℕ) (given : List Term) 
 pub record IsRefutation (k : KernelState) (a t : ℕ) : Type 0 where
   pub falsity : concl_of k a ≡ false_tm
   pub bool : ty_of (term_tree k.store t) ≡ BoolTy
+
+-- the first record concludes a disjunction, and the others conclude the same formula
+pub record AreCases (k : KernelState) (a b c : ℕ) : Type 0 where
+  pub left : Term
+  pub right : Term
+  pub either : concl_of k a ≡ disjunction left right
+  pub same : concl_of k c ≡ concl_of k b

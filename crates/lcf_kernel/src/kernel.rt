@@ -14,7 +14,7 @@ use crate::formula::Constants;
 use crate::hyps::{copied, in_order, outside};
 use crate::thm::{Made, Thm, ThmId};
 use hol_terms::{Frozen, Node, Store, TermFault, TermId, Terms};
-use hol_types::{List, NameId, Subst, TypeFault, TypeId, TypeNode};
+use hol_types::{List, NameId, Subst, TypeFault, TypeId, TypeInstances, TypeNode};
 use std::alloc::{AllocError, Global};
 use std::marker::Model;
 
@@ -48,9 +48,9 @@ impl<'b> Model for Kernel<'b> {
 
     ghost Value = { KernelState };
 
-    ghost view = { λ k. record { store = k.store; facts = k.facts; context = k.context; thms = k.thms.items } };
+    ghost view = { λ k. record { store = k.store.store; facts = k.facts; context = k.context; thms = k.thms.items } };
 
-    ghost invariant = { λ k. IsInside (record { store = k.store; facts = k.facts; context = k.context; thms = k.thms.items }) k.constants k.ordered };
+    ghost invariant = { λ k. IsInside (record { store = k.store.store; facts = k.facts; context = k.context; thms = k.thms.items }) k.constants k.ordered };
 }
 
 impl<'b> Kernel<'b> {
@@ -156,6 +156,14 @@ impl<'b> Kernel<'b> {
         self.facts.as_slice()
     }
 
+    pub(crate) fn context(&self) -> &[TermId]
+        ensures is { result.now ≡ self.now.context }
+        ensures are { IsContext self.now.store result.now }
+        ensures lawful { IsKernel self.now }
+    {
+        self.context.as_slice()
+    }
+
     fn record(&self, t: ThmId) -> &Thm
         requires { HasThm self.now t }
         ensures is { result.now ≡ thm_at self.now t }
@@ -165,7 +173,7 @@ impl<'b> Kernel<'b> {
     }
 
     pub(crate) fn store(&self) -> &Store<'b>
-        ensures { result.now ≡ self.now.store }
+        ensures { result.now.store ≡ self.now.store }
     {
         &self.store
     }
@@ -283,8 +291,13 @@ impl<'b> Terms for Kernel<'b> {
         self.store().type_node(t)
     }
 
-    fn instance(&mut self, t: TypeId, s: &Subst) -> Result<TypeId, AllocError> {
-        let made = self.store.instance(t, s);
+    fn instance_part(
+        &mut self,
+        memo: &mut TypeInstances,
+        t: TypeId,
+        s: &Subst,
+    ) -> Result<TypeId, AllocError> {
+        let made = self.store.instance_part(memo, t, s);
         made
     }
 

@@ -1,9 +1,14 @@
 //! The rules, by families, each family in a module of its own.
 ghost use Rattle.std.specs.Prelude.{◌≡◌};
 
+mod conjunction;
+mod disjunction;
+mod equality;
 mod hypothesis;
 mod implication;
 mod negation;
+mod quantifier;
+mod types;
 
 use std::alloc::AllocError;
 

@@ -10,7 +10,7 @@ use Rattle.proof_plan.specs.declared.rule.Rule.{Rule}
 use Rattle.proof_plan.specs.declared.rule.Rule.TheVariants.{Mp, UnitResolution}
 use Rattle.proof_plan.specs.Rules.{TakesPremises}
 use Rattle.proof_plan.specs.PlanValue.{PlanValue, rule_of, premises_of, claim_of, premise_claims}
-use Rattle.proof_plan.specs.Accept.{Verdict, by_form, are_complements, is_modus_ponens, is_resolved, row, Accept}
+use Rattle.proof_plan.specs.Accept.{Verdict, by_form, are_complements, is_modus_ponens, is_resolved, row, row_answer}
 use Rattle.proof_plan.specs.Rows.{AreComplements, IsForm, IsRow}
 
 -- a row that is a form, by the test that decides the form
@@ -73,9 +73,9 @@ resolved_form f (a ∷ js) c l =
     (Decides-or (some || term_eq (f a) c) (term_eq (f a) false_tm) (Decides-or some (term_eq (f a) c) by_complement by_claim) by_false))
 
 -- the answer of the rule's row
-accept_by : (p : PlanValue) (k : ℕ) (r : Rule) → rule_of p k ≡ r → Accept p k ≡ row r (premise_claims p k) (claim_of p k)
-unfolding Accept
-accept_by p k r e = ap (λ (s : Rule). row s (premise_claims p k) (claim_of p k)) e
+answer_by : (p : PlanValue) (k : ℕ) (r : Rule) → rule_of p k ≡ r → row_answer p k ≡ row r (premise_claims p k) (claim_of p k)
+unfolding row_answer
+answer_by p k r e = ap (λ (s : Rule). row s (premise_claims p k) (claim_of p k)) e
 
 form_along : {Form : Type 0} (v w : Verdict) → v ≡ w → IsForm Form w → IsForm Form v
 form_along v w e f = record { met = λ h. e ∙ f.met h; missed = λ no. e ∙ f.missed no }
@@ -83,6 +83,6 @@ form_along v w e f = record { met = λ h. e ∙ f.met h; missed = λ no. e ∙ f
 -- the row of each rule, for a node with as many premises as the rule takes
 pub row_is : (p : PlanValue) (k : ℕ) (r : Rule) → rule_of p k ≡ r → TakesPremises r (length (premises_of p k)) → IsRow p k r
 unfolding row
-row_is p k Mp e n = form_along _ _ (accept_by p k Mp e) (mp_form (λ j. claim_of p j) (premises_of p k) (claim_of p k) n)
-row_is p k UnitResolution e n = form_along _ _ (accept_by p k UnitResolution e) (resolved_form (λ j. claim_of p j) (premises_of p k) (claim_of p k) n)
-row_is p k r e n = accept_by p k r e
+row_is p k Mp e n = form_along _ _ (answer_by p k Mp e) (mp_form (λ j. claim_of p j) (premises_of p k) (claim_of p k) n)
+row_is p k UnitResolution e n = form_along _ _ (answer_by p k UnitResolution e) (resolved_form (λ j. claim_of p j) (premises_of p k) (claim_of p k) n)
+row_is p k r e n = answer_by p k r e

@@ -3,4 +3,4 @@ pub mod PlanLemmas
 pub mod ReplayLemmas
 pub mod HypothesisLemmas
 pub mod ContextLemmas
-pub mod SmallPlan
+pub mod SizeLemmas

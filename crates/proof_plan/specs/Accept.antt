@@ -1,8 +1,8 @@
 -- Which nodes a proof rule accepts: each rule has its row, on the claim and the premises' claims.
--- The rows of `asserted`, `goal`, `mp` by an implication, and `unit-resolution` on claims without `or` are
--- read. Until its own step each other rule's row reads: Shape. The bound on the number of distinct parts of
--- a step comes with the numbers of parts.
-use Rattle.std.specs.Prelude.{ℕ, Bool, true, false, ◌||◌, List, [], ◌∷◌}
+-- A node of more than 100,000 distinct parts is refused before its row is looked at. The rows of `asserted`, `goal`,
+-- `mp` by an implication, and `unit-resolution` on claims without `or` are read. Until its own step each other rule's
+-- row reads: Shape.
+use Rattle.std.specs.Prelude.{ℕ, Bool, true, false, ◌||◌, nat_lt, if◌then◌else◌, List, [], ◌∷◌, length}
 use Rattle.std.specs.List.{list_any}
 use Rattle.hol_terms.specs.Term.{Term}
 use Rattle.hol_terms.specs.TermEq.{term_eq}
@@ -10,7 +10,8 @@ use Rattle.hol_terms.specs.Constants.{false_tm, negation, implication}
 use Rattle.proof_plan.specs.declared.rule.Rule.{Rule}
 use Rattle.proof_plan.specs.declared.rule.Rule.TheVariants.{Asserted, Goal, Mp, UnitResolution}
 use Rattle.proof_plan.specs.declared.why.Why.{Why}
-use Rattle.proof_plan.specs.declared.why.Why.TheVariants.{Shape}
+use Rattle.proof_plan.specs.declared.why.Why.TheVariants.{Shape, TooLarge}
+use Rattle.part_numbers.specs.Parts.{parts_of}
 use Rattle.proof_plan.specs.PlanValue.{PlanValue, rule_of, claim_of, premise_claims}
 
 -- the answer of a row
@@ -48,6 +49,18 @@ row Mp ps c = by_form (is_modus_ponens ps c)
 row UnitResolution ps c = by_form (is_resolved ps c)
 row r ps c = refused Shape
 
+-- how many distinct parts a claim and its premises' claims have
+unfoldable pub count_of : List Term → Term → ℕ
+count_of ps c = length (parts_of (c ∷ ps))
+
+-- the answer to a rule, the premises' claims and the claim: too large, or the row's
+unfoldable pub step_answer : Rule → List Term → Term → Verdict
+step_answer r ps c = if nat_lt 100000 (count_of ps c) then refused (TooLarge (count_of ps c)) else row r ps c
+
+-- the answer of the row of node k's rule
+unfoldable pub row_answer : PlanValue → ℕ → Verdict
+row_answer p k = row (rule_of p k) (premise_claims p k) (claim_of p k)
+
 -- whether node k is accepted, and else why not
 unfoldable pub Accept : PlanValue → ℕ → Verdict
-Accept p k = row (rule_of p k) (premise_claims p k) (claim_of p k)
+Accept p k = step_answer (rule_of p k) (premise_claims p k) (claim_of p k)

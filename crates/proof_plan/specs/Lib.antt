@@ -6,7 +6,6 @@ pub mod PlainReplay
 pub mod PlanValue
 pub mod Rows
 pub mod Rules
-pub mod Small
 pub mod States
 pub mod Tasks
 pub mod Weights

@@ -1,4 +1,4 @@
--- The rows of acceptance as facts about a node, for what decides them.
+-- The rows of acceptance as facts about a node, for what decides them. The number of its parts is not looked at here.
 use Rattle.std.specs.Prelude.{◌≡◌, ◌⊎◌, ℕ, ◌<◌, length}
 use Rattle.hol_terms.specs.Term.{Term}
 use Rattle.hol_terms.specs.Constants.{false_tm, negation, implication}
@@ -6,7 +6,7 @@ use Rattle.proof_plan.specs.declared.rule.Rule.{Rule}
 use Rattle.proof_plan.specs.declared.rule.Rule.TheVariants.{Asserted, Goal, Mp, UnitResolution}
 use Rattle.proof_plan.specs.declared.why.Why.TheVariants.{Shape}
 use Rattle.proof_plan.specs.PlanValue.{PlanValue, premises_of, claim_of, premise_claim}
-use Rattle.proof_plan.specs.Accept.{Verdict, accepted, refused, Accept}
+use Rattle.proof_plan.specs.Accept.{Verdict, accepted, refused, row_answer}
 
 -- the one formula is the negation of the other
 abbrev pub AreComplements : Term → Term → Type 0
@@ -31,8 +31,8 @@ pub record IsForm (Form : Type 0) (v : Verdict) : Type 0 where
 
 -- the row of the rule, for node k
 abbrev pub IsRow : PlanValue → ℕ → Rule → Type 0
-IsRow p k Asserted = Accept p k ≡ accepted
-IsRow p k Goal = Accept p k ≡ accepted
-IsRow p k Mp = IsForm (IsModusPonens p k) (Accept p k)
-IsRow p k UnitResolution = IsForm (IsResolved p k) (Accept p k)
-IsRow p k r = Accept p k ≡ refused Shape
+IsRow p k Asserted = row_answer p k ≡ accepted
+IsRow p k Goal = row_answer p k ≡ accepted
+IsRow p k Mp = IsForm (IsModusPonens p k) (row_answer p k)
+IsRow p k UnitResolution = IsForm (IsResolved p k) (row_answer p k)
+IsRow p k r = row_answer p k ≡ refused Shape

@@ -10,10 +10,9 @@ mod node;
 mod plan;
 mod rule;
 mod send;
+mod size;
 mod state;
 mod step;
-#[cfg(test)]
-mod tests;
 mod weight;
 mod why;
 
@@ -22,6 +21,7 @@ pub use node::PlanNode;
 pub use plan::{Plan, task};
 pub use rule::Rule;
 pub use send::may_be_shared;
+pub use size::{MOST_PARTS, too_large};
 pub use state::{ReplayFault, State};
 pub use step::Task;
 pub use weight::Weight;

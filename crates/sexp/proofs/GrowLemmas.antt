@@ -1,28 +1,23 @@
 -- The records that a reader's tokens make.
-use Rattle.std.proofs.Common.{◌≡◌, ℕ, suc, ◌+◌, ◌<◌, ◌≤◌, List, [], ◌∷◌, length, true, false, nat_lt, refl, sym, ap, ◌∙◌, arith, Result, Ok, Err}
-use Rattle.std.proofs.lemmas.List.{append-nil}
-use Rattle.std.proofs.lemmas.Bool.{le-ltb}
-use Rattle.sexp.specs.Text.{ends, faulty}
+use Rattle.std.proofs.Common.{◌≡◌, ℕ, zero, suc, ◌+◌, ◌-◌, ◌<◌, ◌≤◌, List, [], ◌∷◌, ◌++◌, length, take, drop, true, false, None, refl, sym, ap, ◌∙◌, arith, Result, Ok, Err}
+use Rattle.std.proofs.lemmas.List.{append-nil, take-append-drop, length-take-le, length-drop, drop-drop}
+use Rattle.sexp.specs.Text.{ends, faulty, CanFollow}
 use Rattle.sexp.specs.Nesting.{Answers, last, token}
 use Rattle.sexp.specs.Lexing.{words_of}
-use Rattle.sexp.specs.Reading.{answers, start_of, fed}
+use Rattle.sexp.specs.Reading.{Reading, answers, answers_from, start_of, fed, finished, is_whole, count_fed, KeepsFed}
 use Rattle.sexp.specs.Tokens.{answers_to}
 use Rattle.sexp.specs.Forest.{Kept}
 use Rattle.sexp.specs.Records.{records, grown, patched, AllBelow, opens_after}
 use Rattle.sexp.specs.Spans.{least, IsSpan, IsOrderly}
+use Rattle.sexp.specs.Growing.{IsGrowing, GrowsFrom}
 use Rattle.sexp.specs.TextTrees.{mapped, tokens_or_fault, records_of}
 use Rattle.sexp.specs.declared.token.Token.{Token}
 use Rattle.sexp.specs.declared.token.TokenKind.{TokenKind}
 use Rattle.sexp.specs.declared.token.TokenKind.TheVariants as kinds
 use Rattle.sexp.specs.declared.token.SexpFault.{SexpFault}
+use Rattle.sexp.proofs.TokensLemmas.{fed-short, words_of-fed, count-fed}
+use Rattle.sexp.proofs.TextLemmas.{all_read}
 use Rattle.sexp.proofs.SpanLemmas.{text-orderly, orderly-from, orderly_after, closes_one}
-
--- the records, with the lists that are open, and the answers to come are those of the text
-pub record IsGrowing (text : List ℕ) (rs : List Kept) (lists : List ℕ) (a : Answers) : Type 0 where
-  pub reads : mapped (grown text rs lists) (tokens_or_fault a) ≡ records_of text
-  pub orderly : IsOrderly a (length lists) (length rs) (length text)
-  pub below : AllBelow lists (length rs)
-  pub fits : length rs ≤ length text
 
 same_by : (text : List ℕ) (read : Result (List Token) SexpFault) → mapped (grown text [] []) read ≡ mapped (λ ts. records text ts 0) read
 unfolding patched
@@ -91,10 +86,60 @@ pub grown_fault : (text : List ℕ) (rs : List Kept) (lists : List ℕ) (a : Ans
     → records_of text ≡ Err fault
 grown_fault text rs lists a fault g e = sym (rw e at g.reads)
 
--- a reader that was fed a whole text that isn't too long
-pub fed_whole : (most : ℕ) (text : List ℕ) → length text ≤ most
-    → (fed (start_of most) text).long ≡ false × (answers (record (fed (start_of most) text) { lexing = record (fed (start_of most) text).lexing { whole = true } }) true [] ≡ answers_to text)
+-- a reader before the first byte
+pub grows_at_start : (most : ℕ) (text : List ℕ) → GrowsFrom text (start_of most) [] []
 unfolding words_of
-fed_whole most text fits =
-    let short : nat_lt most (0 + length text) ≡ false = le-ltb most (0 + length text) (omega arith) in
-    rw (short, append-nil) (refl, refl)
+grows_at_start most text = record { none = refl; short = refl; growing = grows_first text (answers_to text) refl }
+
+-- the piece that comes next in a text, and the rest
+piece_then : (text : List ℕ) (n m : ℕ) → take m (drop n text) ++ drop (n + m) text ≡ drop n text
+piece_then text n m = rw (← drop-drop m n text) (take-append-drop m (drop n text))
+
+-- a reader that is fed the next piece of the text
+pub record FedOn (text : List ℕ) (r after : Reading) (rs : List Kept) (lists : List ℕ) (end : ℕ) : Type 0 where
+  pub grows : GrowsFrom text after rs lists
+  pub counted : count_fed after ≡ end
+  pub whole : is_whole after ≡ is_whole r
+  pub limit : after.most ≡ r.most
+
+pub grows_fed : (text : List ℕ) (r after : Reading) (rs : List Kept) (lists : List ℕ) (n m : ℕ) → GrowsFrom text r rs lists
+    → after ≡ fed r (take m (drop n text)) → count_fed r ≡ n → n + m ≤ length text → n + m ≤ r.most → FedOn text r after rs lists (n + m)
+grows_fed text r after rs lists n m g e counted within fits =
+    let piece = take m (drop n text) in
+    let size : length piece ≡ m = length-take-le m (drop n text) (omega (arith, length-drop n text)) in
+    let room : count_fed r + length piece ≤ r.most = omega arith in
+    let a : after ≡ record r { lexing = record r.lexing { left = r.lexing.left ++ piece } } = e ∙ fed-short r piece g.short room g.none in
+    let count : count_fed after ≡ n + m = ap count_fed a ∙ (count-fed r.lexing piece ∙ omega arith) in
+    let same : answers after true (drop (n + m) text) ≡ answers r true (drop n text)
+    = ap (λ x. answers x true (drop (n + m) text)) a
+    ∙ (ap (λ w. answers_from r.pending w r.lists) (words_of-fed r.lexing piece true (drop (n + m) text))
+    ∙ ap (answers r true) (piece_then text n m)) in
+    record {
+      grows = record {
+        none = ap (λ x. x.fault) a ∙ g.none;
+        short = ap (λ x. x.long) a ∙ g.short;
+        growing = rw (count, same, ← counted) g.growing;
+      };
+      counted = count;
+      whole = ap is_whole a;
+      limit = ap (λ x. x.most) a;
+    }
+
+-- a reader that goes on with no byte more
+pub grows_on : (text : List ℕ) (r after : Reading) (rs : List Kept) (lists : List ℕ) → GrowsFrom text r rs lists → after.fault ≡ None → after.long ≡ r.long
+    → count_fed after ≡ count_fed r → answers r true (drop (count_fed r) text) ≡ answers after true (drop (count_fed r) text) → GrowsFrom text after rs lists
+grows_on text r after rs lists g none long count same =
+    record { none = none; short = long ∙ g.short; growing = rw (count, ← same) g.growing }
+
+-- what follows a front part of a text that is then whole
+pub rest_follows : (text : List ℕ) (r : Reading) → (is_whole r ≡ true → count_fed r ≡ length text) → CanFollow (is_whole r) true (drop (count_fed r) text)
+rest_follows text r all = λ whole. (refl, all_read text (count_fed r) (all whole))
+
+pub keeps_on : (old between new : Reading) → KeepsFed old between → KeepsFed between new → KeepsFed old new
+keeps_on old between new first then =
+    record { count = then.count ∙ first.count; whole = then.whole ∙ first.whole; most = then.most ∙ first.most; long = then.long ∙ first.long }
+
+-- a reader that is told that no more bytes come
+pub grows_finished : (text : List ℕ) (r : Reading) (rs : List Kept) (lists : List ℕ) → GrowsFrom text r rs lists → GrowsFrom text (finished r) rs lists
+unfolding words_of
+grows_finished text r rs lists g = record { none = g.none; short = g.short; growing = g.growing }

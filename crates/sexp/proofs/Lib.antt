@@ -9,3 +9,4 @@ pub mod ForestLemmas
 pub mod SpanLemmas
 pub mod TreeLemmas
 pub mod GrowLemmas
+pub mod TokenBytesLemmas

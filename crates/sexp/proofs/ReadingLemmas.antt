@@ -1,6 +1,6 @@
 -- What one word, or the end of the words, answers.
 use Rattle.std.proofs.Common.{◌≡◌, ℕ, List, [], ◌∷◌, Bool, true, false, not, nat_lt, Some, None, refl, ◌∙◌, Err}
-use Rattle.sexp.specs.Text.{Ending, faulty, Words, word, stop}
+use Rattle.sexp.specs.Text.{Ending, faulty, Words, word, stop, token_of}
 use Rattle.sexp.specs.Lexing.{Lexing, words_of, AlwaysHas}
 use Rattle.sexp.specs.Depth.{depth_of}
 use Rattle.sexp.specs.Nesting.{Answers, last, token, answers_of, at_word, ending_in}
@@ -21,7 +21,7 @@ unfolding words_of
 words_of-found l w whole_then tail e = rw e refl
 
 pub answers_of-word : (w : Word) (rest : Words) (lists : List Frame)
-    → answers_of (word w rest) lists ≡ at_word w.token.kind w.token rest lists (answers_of rest)
+    → answers_of (word w rest) lists ≡ at_word w.kind (token_of w) rest lists (answers_of rest)
 unfolding answers_of
 answers_of-word w rest lists = refl
 
@@ -32,46 +32,46 @@ answers_of-stop ending lists = refl
 abbrev taken : Lexing → Lexing
 taken l = record l { found = None }
 
-pub let_first : (t : Token) (l : Lexing) (w : Word) (lists : List Frame) (whole_then : Bool) (tail : List ℕ)
+pub let_first : (t : Word) (l : Lexing) (w : Word) (lists : List Frame) (whole_then : Bool) (tail : List ℕ)
     → l.found ≡ Some w → w.is_let ≡ true
-    → answers_from (Held t) (words_of l whole_then tail) lists ≡ token t (answers_from (Shown t.start) (words_of l whole_then tail) lists)
+    → answers_from (Held t) (words_of l whole_then tail) lists ≡ token (token_of t) (answers_from (Shown t.start) (words_of l whole_then tail) lists)
 let_first t l w lists whole_then tail e b = rw (words_of-found l w whole_then tail e, b) refl
 
-pub other_first : (t : Token) (l : Lexing) (w : Word) (lists : List Frame) (whole_then : Bool) (tail : List ℕ)
+pub other_first : (t : Word) (l : Lexing) (w : Word) (lists : List Frame) (whole_then : Bool) (tail : List ℕ)
     → l.found ≡ Some w → w.is_let ≡ false
     → answers_from (Held t) (words_of l whole_then tail) lists ≡ last (faulty (TooDeep t.start))
 other_first t l w lists whole_then tail e b = rw (words_of-found l w whole_then tail e, b) refl
 
 at_found : (l after : Lexing) (w : Word) (lists : List Frame) (whole_then : Bool) (tail : List ℕ) → l.found ≡ Some w → after ≡ taken l
     → answers_of (words_of l whole_then tail) lists
-    ≡ at_word w.token.kind w.token (words_of after whole_then tail) lists (answers_of (words_of after whole_then tail))
+    ≡ at_word w.kind (token_of w) (words_of after whole_then tail) lists (answers_of (words_of after whole_then tail))
 at_found l after w lists whole_then tail e t =
     rw (t, words_of-found l w whole_then tail e) (answers_of-word w (words_of (taken l) whole_then tail) lists)
 
 pub opens : (l after : Lexing) (w : Word) (lists : List Frame) (whole_then : Bool) (tail : List ℕ) → l.found ≡ Some w → after ≡ taken l
-    → w.token.kind ≡ kinds.Open → nat_lt (depth_of lists) 2000 ≡ true
-    → answers_of (words_of l whole_then tail) lists ≡ token w.token (answers_from (Shown w.token.start) (words_of after whole_then tail) lists)
+    → w.kind ≡ kinds.Open → nat_lt (depth_of lists) 2000 ≡ true
+    → answers_of (words_of l whole_then tail) lists ≡ token (token_of w) (answers_from (Shown w.start) (words_of after whole_then tail) lists)
 opens l after w lists whole_then tail e t k below = at_found l after w lists whole_then tail e t ∙ rw (k, below) refl
 
 pub opens_at_limit : (l after : Lexing) (w : Word) (lists : List Frame) (whole_then : Bool) (tail : List ℕ) → l.found ≡ Some w → after ≡ taken l
-    → w.token.kind ≡ kinds.Open → nat_lt (depth_of lists) 2000 ≡ false
-    → answers_of (words_of l whole_then tail) lists ≡ answers_from (Held w.token) (words_of after whole_then tail) lists
+    → w.kind ≡ kinds.Open → nat_lt (depth_of lists) 2000 ≡ false
+    → answers_of (words_of l whole_then tail) lists ≡ answers_from (Held w) (words_of after whole_then tail) lists
 opens_at_limit l after w lists whole_then tail e t k above = at_found l after w lists whole_then tail e t ∙ rw (k, above) refl
 
-pub closes_none : (l : Lexing) (w : Word) (whole_then : Bool) (tail : List ℕ) → l.found ≡ Some w → w.token.kind ≡ kinds.Close
-    → answers_of (words_of l whole_then tail) [] ≡ last (faulty (Unopened w.token.start))
+pub closes_none : (l : Lexing) (w : Word) (whole_then : Bool) (tail : List ℕ) → l.found ≡ Some w → w.kind ≡ kinds.Close
+    → answers_of (words_of l whole_then tail) [] ≡ last (faulty (Unopened w.start))
 closes_none l w whole_then tail e k = at_found l (taken l) w [] whole_then tail e refl ∙ rw k refl
 
 pub closes : (l after : Lexing) (w : Word) (list : Frame) (lists : List Frame) (whole_then : Bool) (tail : List ℕ) → l.found ≡ Some w → after ≡ taken l
-    → w.token.kind ≡ kinds.Close → answers_of (words_of l whole_then tail) (list ∷ lists) ≡ token w.token (answers_of (words_of after whole_then tail) lists)
+    → w.kind ≡ kinds.Close → answers_of (words_of l whole_then tail) (list ∷ lists) ≡ token (token_of w) (answers_of (words_of after whole_then tail) lists)
 closes l after w list lists whole_then tail e t k = at_found l after w (list ∷ lists) whole_then tail e t ∙ rw k refl
 
 pub atom_goes : (l after : Lexing) (w : Word) (lists : List Frame) (whole_then : Bool) (tail : List ℕ) → l.found ≡ Some w → after ≡ taken l
-    → w.token.kind ≡ kinds.Atom → answers_of (words_of l whole_then tail) lists ≡ token w.token (answers_of (words_of after whole_then tail) lists)
+    → w.kind ≡ kinds.Atom → answers_of (words_of l whole_then tail) lists ≡ token (token_of w) (answers_of (words_of after whole_then tail) lists)
 atom_goes l after w lists whole_then tail e t k = at_found l after w lists whole_then tail e t ∙ rw k refl
 
 pub quoted_goes : (l after : Lexing) (w : Word) (lists : List Frame) (whole_then : Bool) (tail : List ℕ) → l.found ≡ Some w → after ≡ taken l
-    → w.token.kind ≡ kinds.Quoted → answers_of (words_of l whole_then tail) lists ≡ token w.token (answers_of (words_of after whole_then tail) lists)
+    → w.kind ≡ kinds.Quoted → answers_of (words_of l whole_then tail) lists ≡ token (token_of w) (answers_of (words_of after whole_then tail) lists)
 quoted_goes l after w lists whole_then tail e t k = at_found l after w lists whole_then tail e t ∙ rw k refl
 
 -- the list that was opened last, once its first token is known

@@ -2,7 +2,7 @@
 use Rattle.std.proofs.Common.{◌≡◌, ℕ, zero, suc, ◌+◌, ◌-◌, ◌<◌, ◌≤◌, ◌==◌, List, [], ◌∷◌, length, Bool, true, false, nat_lt, refl, arith, if◌then◌else◌}
 use Rattle.sexp.specs.Bytes.{class_of, stands_in_bars}
 use Rattle.sexp.specs.Depth.{depth_of}
-use Rattle.sexp.specs.Text.{Ending, more, ends, faulty, Words, word, stop, begin_at, in_atom, at_byte, at_end, words_from}
+use Rattle.sexp.specs.Text.{Ending, more, ends, faulty, Words, word, stop, token_of, begin_at, in_atom, at_byte, at_end, words_from}
 use Rattle.sexp.specs.Nesting.{Answers, last, token, answers_of, at_word, at_limit, at_close, ending_in, opened}
 use Rattle.sexp.specs.Tokens.{answers_to, prepend}
 use Rattle.sexp.specs.Spans.{IsSpan, AreWithin, BeganWithin, IsClosed, orderly_by, IsOrderly, AreSpans}
@@ -55,7 +55,7 @@ comment-within false from at to read_on low on = on modes.Comment from (omega ar
 
 bars-within : (is_bar stands : Bool) (start from at to : ℕ) (fault : SexpFault) (read_on : Mode → Words) → from ≤ start → start < at → at + 1 ≤ to
     → ReadsWithin read_on (at + 1) to
-    → AreWithin (if is_bar then word (record { token = record { start = start; end = at + 1; kind = kinds.Quoted }; is_let = false }) (read_on modes.Between) else
+    → AreWithin (if is_bar then word (record { start = start; end = at + 1; kind = kinds.Quoted; is_let = false }) (read_on modes.Between) else
     if stands then read_on (modes.Quoted start) else stop (faulty fault)) from to
 bars-within true stands start from at to fault read_on low begun high on =
     (record { begins = low; wide = omega arith; within = high }, on modes.Between (at + 1) (omega arith))
@@ -125,7 +125,7 @@ pub answers-orderly : (words : Words) (lists : List Frame) (from to : ℕ) → A
 unfolding answers_of
 answers-orderly (stop ending) lists from to within = ending-closed ending lists
 answers-orderly (word w rest) lists from to within =
-    word-orderly w.token.kind w.token rest lists (answers_of rest) from to refl within.0 (λ inner. answers-orderly rest inner w.token.end to within.1)
+    word-orderly w.kind (token_of w) rest lists (answers_of rest) from to refl within.0 (λ inner. answers-orderly rest inner w.end to within.1)
 
 pub text-orderly : (text : List ℕ) → IsOrderly (answers_to text) 0 0 (length text)
 text-orderly text = answers-orderly (words_from true text modes.Between 0) [] 0 (length text) (words-within true text modes.Between 0 0 (length text) (omega arith) (omega arith))

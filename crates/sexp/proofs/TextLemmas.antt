@@ -2,7 +2,9 @@
 use Rattle.std.proofs.Common.{◌≡◌, ℕ, ◌+◌, ◌<◌, List, [], ◌∷◌, ◌++◌, Bool, true, length, drop, get_or, refl, ap, sym, ◌∙◌, arith, drop-cons, add-one}
 use Rattle.sexp.specs.Text.{Words, word, stop, ends, words_from, words_from-cons, words_from-end, at_byte, at_end, AlwaysReads, CanFollow}
 use Rattle.sexp.specs.declared.lexis.Word.{Word}
-use Rattle.sexp.specs.declared.lexis.Mode.TheVariants.{Between}
+use Rattle.sexp.specs.declared.lexis.Mode.TheVariants.{Between, Atom}
+use Rattle.sexp.specs.declared.bytes.Class.TheVariants.{Letter}
+use Rattle.sexp.specs.Bytes.{class_of, letters_after}
 use Rattle.sexp.specs.declared.lexis.Mode.{Mode}
 
 front : (bytes : List ℕ) (i : ℕ) → i < length bytes → drop i bytes ≡ get_or bytes i 0 ∷ drop (i + 1) bytes
@@ -38,3 +40,9 @@ pub word_at_end : (whole : Bool) (bytes : List ℕ) (read : ℕ) (mode : Mode) (
 word_at_end whole bytes read mode at w all is_whole ended = λ whole_then tail follow.
     reads_end whole bytes read mode at (word w (stop ends)) all is_whole ended whole_then tail follow
     ∙ ap (word w) (sym (reads_end whole bytes read Between at (stop ends) all is_whole refl whole_then tail follow))
+
+-- a letter leaves an atom as it is that can't be `let`
+pub letter_stays : (start letters b at : ℕ) (read_on : Mode → Words) → letters ≡ 4 → class_of b ≡ Letter
+    → at_byte (Atom start letters) at b read_on ≡ read_on (Atom start letters)
+unfolding letters_after
+letter_stays start letters b at read_on four letter = rw (letter, four) refl

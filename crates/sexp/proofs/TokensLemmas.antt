@@ -69,7 +69,7 @@ fed-long r piece (inl long) = rw long refl
 fed-long r piece (inr more) = rw (lt-ltb r.most (count_fed r + length piece) more, or_true r.long) refl
 
 -- a reader that takes the bytes
-fed-short : (r : Reading) (piece : List ℕ) → r.long ≡ false → count_fed r + length piece ≤ r.most → r.fault ≡ None
+pub fed-short : (r : Reading) (piece : List ℕ) → r.long ≡ false → count_fed r + length piece ≤ r.most → r.fault ≡ None
     → fed r piece ≡ record r { lexing = record r.lexing { left = r.lexing.left ++ piece } }
 fed-short r piece short fits none = rw (short, le-ltb r.most (count_fed r + length piece) fits, none) refl
 
@@ -78,12 +78,12 @@ fed-counted : (r : Reading) (piece : List ℕ) (f : SexpFault) → r.long ≡ fa
     → fed r piece ≡ record r { lexing = record r.lexing { at = r.lexing.at + length piece } }
 fed-counted r piece f short fits some = rw (short, le-ltb r.most (count_fed r + length piece) fits, some) refl
 
-words_of-fed : (l : Lexing) (piece : List ℕ) (whole_then : Bool) (tail : List ℕ)
+pub words_of-fed : (l : Lexing) (piece : List ℕ) (whole_then : Bool) (tail : List ℕ)
     → words_of (record l { left = l.left ++ piece }) whole_then tail ≡ words_of l whole_then (piece ++ tail)
 unfolding words_of
 words_of-fed l piece whole_then tail = rw append_assoc refl
 
-count-fed : (l : Lexing) (piece : List ℕ) → fed_of (record l { left = l.left ++ piece }) ≡ fed_of l + length piece
+pub count-fed : (l : Lexing) (piece : List ℕ) → fed_of (record l { left = l.left ++ piece }) ≡ fed_of l + length piece
 count-fed l piece = omega (arith, length-append l.left piece)
 
 count-counted : (l : Lexing) (piece : List ℕ) → fed_of (record l { at = l.at + length piece }) ≡ fed_of l + length piece

@@ -11,3 +11,5 @@ pub mod Records
 pub mod TextTrees
 pub mod Spans
 pub mod Texts
+pub mod TokenBytes
+pub mod Growing

@@ -1,6 +1,6 @@
 -- What is answered about a text: its tokens in order, and what comes after the last.
 use Rattle.std.specs.Prelude.{ℕ, List, [], ◌∷◌, Bool, false, not, nat_lt, if◌then◌else◌}
-use Rattle.sexp.specs.Text.{Ending, more, ends, faulty, Words, word, stop}
+use Rattle.sexp.specs.Text.{Ending, more, ends, faulty, Words, word, stop, token_of}
 use Rattle.sexp.specs.Depth.{depth_of}
 use Rattle.sexp.specs.declared.token.Token.{Token}
 use Rattle.sexp.specs.declared.token.TokenKind.{TokenKind}
@@ -51,4 +51,4 @@ ending_in (faulty f) lists = faulty f
 
 unfoldable pub answers_of : Words → List Frame → Answers
 answers_of (stop ending) lists = last (ending_in ending lists)
-answers_of (word w rest) lists = at_word w.token.kind w.token rest lists (answers_of rest)
+answers_of (word w rest) lists = at_word w.kind (token_of w) rest lists (answers_of rest)

@@ -1,13 +1,15 @@
 -- What a reader has still to answer.
 use Rattle.std.specs.Prelude.{◌≡◌, ◌≢◌, ℕ, ◌+◌, List, [], ◌∷◌, ◌++◌, length, nat_lt, ◌||◌, if◌then◌else◌, Bool, true, false, Option, Some, None, is_some, Result, Ok, Err}
 use Rattle.sexp.specs.declared.lexis.Mode.TheVariants.{Between}
-use Rattle.sexp.specs.Text.{more, ends, faulty, Words, CanFollow}
+use Rattle.sexp.specs.Text.{more, ends, faulty, Words, token_of, CanFollow}
 use Rattle.sexp.specs.Lexing.{Lexing, words_of, fed_of}
 use Rattle.sexp.specs.Nesting.{Answers, last, token, answers_of, opened, at_limit}
 use Rattle.sexp.specs.declared.token.Next.{Next}
 use Rattle.sexp.specs.declared.token.Next.TheVariants as nexts
 use Rattle.sexp.specs.declared.token.SexpFault.{SexpFault}
 use Rattle.sexp.specs.declared.token.SexpFault.TheVariants as faults
+use Rattle.sexp.specs.declared.look.Peek.{Peek}
+use Rattle.sexp.specs.declared.look.Peek.TheVariants as peeks
 use Rattle.sexp.specs.declared.nest.Frame.{Frame}
 use Rattle.sexp.specs.declared.answer.Pending.{Pending}
 use Rattle.sexp.specs.declared.answer.Pending.TheVariants.{Nothing, Shown, Held}
@@ -16,7 +18,14 @@ use Rattle.sexp.specs.declared.answer.Pending.TheVariants.{Nothing, Shown, Held}
 abbrev pub answers_from : Pending → Words → List Frame → Answers
 answers_from Nothing words lists = answers_of words lists
 answers_from (Shown start) words lists = answers_of words (opened start words ∷ lists)
-answers_from (Held t) words lists = at_limit t words (answers_of words (opened t.start words ∷ lists))
+answers_from (Held list) words lists = at_limit (token_of list) words (answers_of words (opened list.start words ∷ lists))
+
+-- what a reader answers where that comes next
+abbrev pub told : Peek → Result Next SexpFault
+told (peeks.Word w) = Ok (nexts.Token (token_of w))
+told (peeks.Fault fault) = Err fault
+told peeks.End = Ok nexts.End
+told peeks.More = Ok nexts.More
 
 abbrev pub following : Result Next SexpFault → Answers → Answers
 following (Ok (nexts.Token t)) rest = token t rest

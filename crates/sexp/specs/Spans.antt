@@ -1,6 +1,6 @@
 -- The tokens of a text stand one behind another, and each closing parenthesis has its opening one.
 use Rattle.std.specs.Prelude.{◌≡◌, ℕ, zero, suc, ◌+◌, ◌<◌, ◌≤◌, List, [], ◌∷◌}
-use Rattle.sexp.specs.Text.{Ending, more, ends, faulty, Words, word, stop}
+use Rattle.sexp.specs.Text.{Ending, more, ends, faulty, Words, word, stop, token_of}
 use Rattle.sexp.specs.Nesting.{Answers, last, token}
 use Rattle.sexp.specs.declared.lexis.Mode.{Mode}
 use Rattle.sexp.specs.declared.lexis.Mode.TheVariants as modes
@@ -24,7 +24,7 @@ pub record IsSpan (t : Token) (from to : ℕ) : Type 0 where
 -- the words stand one behind another between these places
 abbrev pub AreWithin : Words → ℕ → ℕ → Type 0
 AreWithin (stop ending) from to = Unit {0}
-AreWithin (word w rest) from to = IsSpan w.token from to × AreWithin rest w.token.end to
+AreWithin (word w rest) from to = IsSpan (token_of w) from to × AreWithin rest w.end to
 
 -- what is begun and not ended began between these places
 abbrev pub BeganWithin : Mode → ℕ → ℕ → Type 0

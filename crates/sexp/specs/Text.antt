@@ -3,6 +3,7 @@ use Rattle.std.specs.Prelude.{◌≡◌, refl, ℕ, ◌+◌, ◌==◌, List, [],
 use Rattle.sexp.specs.Bytes.{class_of, stands_in_bars, letters_after}
 use Rattle.sexp.specs.declared.bytes.Class.{Class}
 use Rattle.sexp.specs.declared.bytes.Class.TheVariants as classes
+use Rattle.sexp.specs.declared.token.Token.{Token}
 use Rattle.sexp.specs.declared.token.TokenKind.{TokenKind}
 use Rattle.sexp.specs.declared.token.TokenKind.TheVariants as kinds
 use Rattle.sexp.specs.declared.token.SexpFault.{SexpFault}
@@ -29,7 +30,11 @@ pub data Words : Type 0 where
   word : Word → Words → Words
 
 abbrev pub word_of : TokenKind → ℕ → ℕ → Bool → Word
-word_of kind from to is_let = record { token = record { start = from; end = to; kind = kind }; is_let = is_let }
+word_of kind from to is_let = record { start = from; end = to; kind = kind; is_let = is_let }
+
+-- the token that a word is
+abbrev pub token_of : Word → Token
+token_of w = record { start = w.start; end = w.end; kind = w.kind }
 
 abbrev pub atom_of : ℕ → ℕ → ℕ → Word
 atom_of start letters at = word_of kinds.Atom start at (letters == 3)
@@ -75,7 +80,7 @@ words_from-cons whole b bytes mode at = refl
 
 abbrev pub gives : Step → ℕ → ℕ → (Mode → Words) → Words
 gives (steps.On mode) at b read_on = read_on mode
-gives (steps.Word w mode) at b read_on = word w (read_on mode)
+gives (steps.Word w) at b read_on = word w (read_on Between)
 gives (steps.Before w) at b read_on = word w (at_byte Between at b read_on)
 gives steps.Bad at b read_on = stop (faulty (BadByte at))
 

@@ -1,8 +1,8 @@
-ghost use Rattle.std.specs.Prelude.{◌≡◌, ◌≢◌, ℕ, List, [], ◌+◌, ◌<◌, ◌≤◌, ◌^◌, ◌⊎◌, true, false, length, MatchOption, Some, None, IfOk};
+ghost use Rattle.std.specs.Prelude.{◌≡◌, ◌≢◌, ℕ, List, [], ◌+◌, ◌<◌, ◌≤◌, ◌^◌, ◌⊎◌, true, false, length, reverse, MatchOption, Some, None, Ok, Err, IfOk, IfErr, OnOk};
 ghost use Rattle.sexp.specs.Tree.{AtomTree, no_trees, more_trees, place, text_of};
 ghost use Rattle.sexp.specs.Forest.{kept_at, tree_at, trees_at, after_of, rec_at, kind_of, Tells, HasTree, IsRun};
-ghost use Rattle.sexp.specs.Reading.{answers, is_whole};
-ghost use Rattle.sexp.specs.Tokens.{answers_to};
+ghost use Rattle.sexp.specs.Reading.{count_fed, is_whole, KeepsFed};
+ghost use Rattle.sexp.specs.Growing.{GrowsFrom};
 ghost use Rattle.sexp.specs.TextTrees.{forest_of, records_of, unless_long, Gives};
 
 use crate::grow::add_token;
@@ -30,29 +30,60 @@ impl Model for Forest {
     ghost invariant = { λ f. IsForest f.records × (length f.records < 2 ^ 32) };
 }
 
-/// The records of the text that a reader was fed.
-fn grow(alloc: Global, reader: &mut Reader, bytes: &[u8]) -> Result<Records, SexpFault>
-    requires whole { is_whole reader.old ≡ true }
-    requires short { reader.old.long ≡ false }
-    requires fault { reader.old.fault ≡ None }
-    requires reads { answers reader.old true [] ≡ answers_to bytes.now }
+/// Adds the tokens that a reader has to answer to the records of the text, of which it was fed a front part.
+fn grow(
+    reader: &mut Reader,
+    records: &mut Records,
+    lists: &mut Vec<usize>,
+    bytes: &[u8],
+) -> Result<(), SexpFault>
+    requires whole { is_whole reader.old ≡ true → count_fed reader.old ≡ length bytes.now }
     requires small { length bytes.now < 2 ^ 32 }
-    ensures reads { Gives (λ records. records) result (records_of bytes.now) }
-    ensures small { IfOk result (λ records. length records ≤ length bytes.now) }
+    requires grows { GrowsFrom bytes.now reader.old records.old (reverse lists.old.items) }
+    ensures grows { OnOk result (GrowsFrom bytes.now reader.new records.new (reverse lists.new.items)) }
+    ensures keeps { KeepsFed reader.old reader.new }
+    ensures all { OnOk result (is_whole reader.old ≡ true → records_of bytes.now ≡ Ok records.new) }
+    ensures fault { IfErr result (λ fault. fault ≢ SexpFault.Memory → records_of bytes.now ≡ Err fault) }
 {
-    let mut records = Records::new(alloc);
-    let mut lists = Vec::new(alloc);
     'tokens: loop {
         match reader.next() {
-            Ok(Next::Token(token)) => match add_token(&mut records, &mut lists, bytes, token) {
+            Ok(Next::Token(token)) => match add_token(records, lists, bytes, token) {
                 Ok(()) => {}
                 Err(_) => return Err(SexpFault::Memory),
             },
-            Ok(Next::End) => return Ok(records),
-            Ok(Next::More) => return Ok(records),
+            Ok(Next::End) => return Ok(()),
+            Ok(Next::More) => return Ok(()),
             Err(fault) => return Err(fault),
         }
     }
+}
+
+/// How many bytes a reader takes at once: so few that they stay near the processor.
+const PIECE: usize = 65_536;
+
+/// The records of a text.
+fn read_records(alloc: Global, bytes: &[u8], most: u64) -> Result<Records, SexpFault>
+    requires fits { length bytes.now ≤ most }
+    requires small { most < 2 ^ 32 }
+    ensures reads { Gives (λ records. records) result (records_of bytes.now) }
+    ensures small { IfOk result (λ records. length records ≤ length bytes.now) }
+{
+    let mut reader = Reader::new(alloc, most);
+    let mut records = Records::new(alloc);
+    let mut lists = Vec::new(alloc);
+    let mut fed = 0;
+    'pieces: while fed < bytes.len() {
+        let size = PIECE.min(bytes.len() - fed);
+        match reader.feed(&bytes[fed..fed + size]) {
+            Ok(()) => {}
+            Err(_) => return Err(SexpFault::Memory),
+        }
+        fed += size;
+        grow(&mut reader, &mut records, &mut lists, bytes)?;
+    }
+    reader.finish();
+    grow(&mut reader, &mut records, &mut lists, bytes)?;
+    Ok(records)
 }
 
 /// Reads the trees of a text of at most `most` bytes.
@@ -64,13 +95,7 @@ pub fn read_forest(alloc: Global, bytes: &[u8], most: u64) -> Result<Forest, Sex
     if bytes.len() as u64 > most {
         return Err(SexpFault::TooLong(most));
     }
-    let mut reader = Reader::new(alloc, most);
-    match reader.feed(bytes) {
-        Ok(()) => {}
-        Err(_) => return Err(SexpFault::Memory),
-    }
-    reader.finish();
-    match grow(alloc, &mut reader, bytes) {
+    match read_records(alloc, bytes, most) {
         Ok(records) => Ok(Forest { records }),
         Err(fault) => Err(fault),
     }

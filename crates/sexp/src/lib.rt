@@ -23,6 +23,3 @@ pub use reader::Reader;
 pub use rec::{Rec, RecKind};
 pub use token::{Next, SexpFault, Token, TokenKind};
 pub use tokens::read_tokens;
-
-#[cfg(test)]
-mod tests;

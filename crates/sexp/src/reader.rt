@@ -3,6 +3,7 @@ ghost use Rattle.sexp.specs.Reading.{start_of, fed, finished, is_whole, fault_of
 
 use crate::answer::{Pending, next_answer};
 use crate::lexer::Lexer;
+use crate::look::Peek;
 use crate::nest::Nest;
 use crate::token::{Next, SexpFault};
 use std::alloc::{AllocError, Global};
@@ -93,23 +94,26 @@ impl Reader {
         if let Some(fault) = self.fault {
             return Err(fault);
         }
-        let answer = if self.long {
-            Err(SexpFault::TooLong(self.most))
-        } else {
-            next_answer(&mut self.lexer, &mut self.pending, &mut self.nest)
-        };
-        self.fault = lasting(&answer);
-        answer
+        if self.long {
+            return self.fail(SexpFault::TooLong(self.most));
+        }
+        match next_answer(&mut self.lexer, &mut self.pending, &mut self.nest) {
+            Peek::Word(word) => Ok(Next::Token(word.as_token())),
+            Peek::Fault(fault) => self.fail(fault),
+            Peek::End => Ok(Next::End),
+            Peek::More => Ok(Next::More),
+        }
     }
-}
 
-/// The fault that stays, which want of memory doesn't.
-fn lasting(answer: &Result<Next, SexpFault>) -> Option<SexpFault>
-    ensures { result ≡ fault_of answer.now }
-{
-    match answer {
-        Ok(_) => None,
-        Err(SexpFault::Memory) => None,
-        Err(fault) => Some(*fault),
+    /// Answers a fault, and keeps it. Want of memory isn't kept.
+    fn fail(&mut self, fault: SexpFault) -> Result<Next, SexpFault>
+        requires { self.old.fault ≡ None }
+        ensures answer { result ≡ Err fault }
+        ensures kept { self.new ≡ record self.old { fault = fault_of (Err fault) } }
+    {
+        if fault != SexpFault::Memory {
+            self.fault = Some(fault);
+        }
+        Err(fault)
     }
 }

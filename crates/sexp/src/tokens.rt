@@ -3,6 +3,7 @@ ghost use Rattle.sexp.specs.Text.{ends};
 ghost use Rattle.sexp.specs.Nesting.{last};
 ghost use Rattle.sexp.specs.Reading.{answers, is_whole};
 ghost use Rattle.sexp.specs.Spans.{AreSpans};
+ghost use Rattle.sexp.specs.TokenBytes.{AreTokensOf};
 ghost use Rattle.sexp.specs.Tokens.{prepend, IsDrained, IsRest, answers_to, IsFaultOf};
 ghost use Rattle.sexp.specs.declared.token.SexpFault.{SexpFault};
 
@@ -47,7 +48,7 @@ fn rest(reader: &mut Reader, out: &mut Vec<Token>) -> Result<(), SexpFault>
 }
 
 /// The tokens of a text of at most `most` bytes that comes in pieces. They, or the fault, are those of the pieces
-/// in a row.
+/// in a row; each stands behind the one before, and is what stands there in the text.
 pub fn read_tokens(alloc: Global, most: u64, pieces: &[Vec<u8>]) -> Result<Vec<Token>, SexpFault>
     ensures too_long { most < length (flat_map (λ piece. piece.items) pieces.now)
         → (result ≡ Err (SexpFault.TooLong most)) ⊎ (result ≡ Err SexpFault.Memory) }
@@ -55,6 +56,7 @@ pub fn read_tokens(alloc: Global, most: u64, pieces: &[Vec<u8>]) -> Result<Vec<T
         (λ out. answers_to (flat_map (λ piece. piece.items) pieces.now) ≡ prepend out.items (last ends))
         (λ fault. IsFaultOf fault (flat_map (λ piece. piece.items) pieces.now)) }
     ensures spans { IfOk result (λ out. AreSpans out.items 0 (length (flat_map (λ piece. piece.items) pieces.now))) }
+    ensures bytes { IfOk result (λ out. AreTokensOf (flat_map (λ piece. piece.items) pieces.now) out.items) }
 {
     let mut reader = Reader::new(alloc, most);
     let mut out = Vec::new(alloc);

@@ -8,7 +8,7 @@ use Rattle.hol_terms.specs.Term.{Term}
 use Rattle.hol_terms.specs.TermStore.{TermStore}
 use Rattle.proof_plan.specs.declared.why.Why.{Why}
 use Rattle.proof_plan.specs.PlanValue.{PlanValue, node_at, tree_in, rule_of, premises_of, premise_claims, claim_of, no_node as no_plan_node}
-use Rattle.proof_plan.specs.Accept.{Accept, Verdict, accepted, refused, row}
+use Rattle.proof_plan.specs.Accept.{Accept, Verdict, accepted, refused, step_answer}
 use Rattle.proof_plan.specs.IsPlan.{IsPlan, IsNode}
 use Rattle.first_form.specs.GoalForm.{FirstProblem}
 use Rattle.first_form.specs.ProofForm.{Proof, proof_form}
@@ -63,7 +63,7 @@ claim_is p k h = ap (λ n. n.claim) (node_is p k h)
 -- the rule says the same of a node, seen in the plan or by itself
 accept_is : (p : PlanValue) → IsPlan p → (k : ℕ) → k < length p.nodes → verdict (plan_nodes_in p) (slice_index_or (plan_nodes_in p) k no_node) ≡ Accept p k
 unfolding Accept
-accept_is p is k h = ap (λ n. verdict (plan_nodes_in p) n) (node_is p k h) ∙ ap (λ cs. row (rule_of p k) cs (claim_of p k)) claims
+accept_is p is k h = ap (λ n. verdict (plan_nodes_in p) n) (node_is p k h) ∙ ap (λ cs. step_answer (rule_of p k) cs (claim_of p k)) claims
   where
     below : All (λ j. j < k) (premises_of p k)
     below = (is.nodes k h).below

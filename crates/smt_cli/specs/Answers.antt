@@ -7,7 +7,7 @@ use Rattle.proof_plan.specs.declared.rule.Rule.TheVariants.{Asserted}
 use Rattle.proof_plan.specs.declared.why.Why.{Why}
 use Rattle.proof_plan.specs.Rules.{rule_name}
 use Rattle.proof_plan.specs.WhyText.{why_text}
-use Rattle.proof_plan.specs.Accept.{Verdict, accepted, refused, row}
+use Rattle.proof_plan.specs.Accept.{Verdict, accepted, refused, step_answer}
 use Rattle.first_form.specs.GoalForm.{FirstProblem, goal_form}
 use Rattle.first_form.specs.GoalText.{goal_text}
 use Rattle.first_form.specs.ProofForm.{Proof, proof_form}
@@ -45,9 +45,9 @@ no_node = record { name = []; place = 0; rule = Asserted; premises = []; claim =
 abbrev pub claim_at : List ProofNode → ℕ → Term
 claim_at nodes j = (slice_index_or nodes j no_node).claim
 
--- what the rule of a node says of it
+-- what is said of a node: that it is too large, or what its rule's row says
 abbrev pub verdict : List ProofNode → ProofNode → Verdict
-verdict nodes n = row n.rule (map (λ j. claim_at nodes j) n.premises) n.claim
+verdict nodes n = step_answer n.rule (map (λ j. claim_at nodes j) n.premises) n.claim
 
 -- a node with this verdict, before others with this answer
 abbrev pub before : Verdict → ProofNode → Answer → Answer

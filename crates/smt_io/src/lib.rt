@@ -17,6 +17,3 @@ pub use mem_files::MemFiles;
 pub use mem_sink::MemSink;
 pub use sink::{Sink, SinkFailed, write_all};
 pub use system::{DiskFiles, StdSink};
-
-#[cfg(test)]
-mod tests;

@@ -63,4 +63,32 @@ impl<'b> Kernel<'b> {
         let r = self.conclude(hyps, concl, false)?;
         Ok(r)
     }
+
+    //    G |- A
+    //  ----------- weaken      t is of type Bool
+    //   G, t |- A
+    /// A conclusion under one hypothesis more. Where that stands in the context, the record has no further hypothesis.
+    /// Shape exactly where the term isn't of type Bool.
+    #[tactic(auto, using(crate::proofs::KeepLemmas::keeps_all_same, crate::proofs::KeepLemmas::keeps_all_trans))]
+    pub fn weaken(&mut self, a: ThmId, t: TermId) -> Result<ThmId, RuleFault>
+        requires thm { HasThm self.old a }
+        requires there { HasTerm self.old.store t }
+        requires closed { IsClosed (term_tree self.old.store t) }
+        ensures there { IfOk result (λ r. HasThm self.new r) }
+        ensures concl { IfOk result (λ r. concl_of self.new r ≡ concl_of self.old a) }
+        ensures hyps { IfOk result (λ r. IsOutside (context_of self.old) (term_tree self.old.store t ∷ hyps_of self.old a) (hyps_of self.new r)) }
+        ensures bare { IfOk result (λ r. bare_of self.new r ≡ bare_of self.old a) }
+        ensures ok { OnOk result (ty_of (term_tree self.old.store t) ≡ BoolTy) }
+        ensures shape { IfErr result (λ e. e ≡ RuleFault.Shape → ty_of (term_tree self.old.store t) ≡ BoolTy → ⊥) }
+        ensures keeps { KeepsAll self.old self.new }
+    {
+        if !self.is_formula(t) {
+            return Err(RuleFault::Shape);
+        }
+        let hyps = self.hyps_with(a, t)?;
+        let concl = self.concl(a);
+        let bare = self.is_bare(a);
+        let r = self.conclude(hyps, concl, bare)?;
+        Ok(r)
+    }
 }

@@ -2,7 +2,7 @@ use Rattle.std.proofs.Common.{◌≡◌, ◌∙◌, ap, sym, arith}
 use Rattle.hol_types.specs.TypeSubst.{subst_tree, instance_of}
 use Rattle.hol_terms.specs.TermStore.{term_tree, HasTerm}
 use Rattle.hol_terms.specs.Substitution.{subst_types}
-use Rattle.hol_terms.proofs.KeepsLemmas.{keeps_trans, subst_kept, subst_same}
+use Rattle.hol_terms.proofs.KeepsLemmas.{keeps_trans, subst_kept, subst_same, made_kept}
 use Rattle.hol_terms.proofs.MemoLemmas.{instances_kept, instances_put, instances_unchanged}
 use Rattle.hol_terms.proofs.OpenLemmas.{instance_app, instance_lam}
 use Rattle.hol_terms.proofs.instantiate.+instantiate.Goals as goal
@@ -89,7 +89,7 @@ instantiate_node-instantiate_part-requires-in-App g t c =
     let k = c.in_ok-f-in-App.ensures.keeps in
     let below = c.in-App.ensures.parts in
     let has_x : HasTerm s c.in-App.x = omega arith in
-    λ κs lives. (omega arith, (lives.0, (lives.1, (k.terms c.in-App.x has_x, (c.in_ok-f-in-App.ensures.subst, rw c.in_ok-f-in-App.ensures.same c.in_ok-f-in-App.ensures.memo)))))
+    λ κs lives. (omega arith, (lives.0, (lives.1, (k.terms c.in-App.x has_x, (c.in_ok-f-in-App.ensures.subst, (rw c.in_ok-f-in-App.ensures.same c.in_ok-f-in-App.ensures.memo, c.in_ok-f-in-App.ensures.types))))))
 
 pub instantiate_node-returns-in_err-x-in-App-clause-memo : goal.instantiate_node-returns-in_err-x-in-App-clause-memo
 instantiate_node-returns-in_err-x-in-App-clause-memo g t c = rw c.in_ok-f-in-App.ensures.same at c.in_err-x-in-App.ensures.memo
@@ -149,3 +149,18 @@ instantiate_node-returns-in_ok-r-in-Lam-clause-keeps g t c = keeps_trans c.in_ok
 
 pub instantiate_part-returns-in_err-insert-in-None-clause-memo : goal.instantiate_part-returns-in_err-insert-in-None-clause-memo
 instantiate_part-returns-in_err-insert-in-None-clause-memo g t c = instances_unchanged c.in_err-insert-in-None.ensures.err c.in_ok-r-in-None.ensures.memo
+
+pub instantiate_node-returns-in_ok-r-in-Free-clause-types : goal.instantiate_node-returns-in_ok-r-in-Free-clause-types
+instantiate_node-returns-in_ok-r-in-Free-clause-types g t c = made_kept c.in_ok-r-in-Free.ensures.keeps c.in_ok-ty-in-Free.ensures.subst c.in_ok-ty-in-Free.ensures.types
+
+pub instantiate_node-returns-in_ok-r-in-Bound-clause-types : goal.instantiate_node-returns-in_ok-r-in-Bound-clause-types
+instantiate_node-returns-in_ok-r-in-Bound-clause-types g t c = made_kept c.in_ok-r-in-Bound.ensures.keeps c.in_ok-ty-in-Bound.ensures.subst c.in_ok-ty-in-Bound.ensures.types
+
+pub instantiate_node-returns-in_ok-r-in-Const-clause-types : goal.instantiate_node-returns-in_ok-r-in-Const-clause-types
+instantiate_node-returns-in_ok-r-in-Const-clause-types g t c = made_kept c.in_ok-r-in-Const.ensures.keeps c.in_ok-ty-in-Const.ensures.subst c.in_ok-ty-in-Const.ensures.types
+
+pub instantiate_node-returns-in_ok-r-in-Lam-clause-types : goal.instantiate_node-returns-in_ok-r-in-Lam-clause-types
+instantiate_node-returns-in_ok-r-in-Lam-clause-types g t c = made_kept c.in_ok-r-in-Lam.ensures.keeps c.in_ok-domain-in-Lam.ensures.subst c.in_ok-domain-in-Lam.ensures.types
+
+pub instantiate_node-returns-in_ok-r-in-App-clause-types : goal.instantiate_node-returns-in_ok-r-in-App-clause-types
+instantiate_node-returns-in_ok-r-in-App-clause-types g t c = made_kept c.in_ok-r-in-App.ensures.keeps c.in_ok-x-in-App.ensures.subst c.in_ok-x-in-App.ensures.types

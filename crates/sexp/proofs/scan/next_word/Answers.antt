@@ -27,3 +27,9 @@ loop-i-preserved c = λ whole tail.
     c.loop-i.invariant whole tail
     ∙ (words_from-step whole c.args.bytes.now tail c.loop-i.mode c.args.at c.loop-i.i c.loop-i-test.true
     ∙ c.in-On.ensures (λ after. words_from whole (drop (c.loop-i.i + 1) c.args.bytes.now ++ tail) after (c.args.at + (c.loop-i.i + 1))))
+
+pub loop-i-preserved-then-stays : goal.loop-i-preserved-then-stays
+loop-i-preserved-then-stays c = λ whole tail.
+    c.loop-i.invariant whole tail
+    ∙ (words_from-step whole c.args.bytes.now tail c.loop-i.mode c.args.at c.loop-i.i c.loop-i-test.true
+    ∙ c.stays.ensures c.if-stays.true (c.args.at + c.loop-i.i) (λ after. words_from whole (drop (c.loop-i.i + 1) c.args.bytes.now ++ tail) after (c.args.at + (c.loop-i.i + 1))))

@@ -3,6 +3,7 @@ use Rattle.std.proofs.lemmas.List.{take_all}
 use Rattle.sexp.specs.Text.{ends}
 use Rattle.sexp.specs.Nesting.{last}
 use Rattle.sexp.proofs.SpanLemmas.{text-spans}
+use Rattle.sexp.proofs.TokenBytesLemmas.{text_tokens}
 use Rattle.sexp.proofs.TokensLemmas.{IsFed, starts, feeds, text_more, ends_ok, ends_err, never_long}
 use Rattle.sexp.proofs.tokens.read_tokens.Goals as goal
 
@@ -52,6 +53,18 @@ returns-in-Ok-rest-clause-spans c =
     let same : c.finish.new.self.fault ≡ r.fault = ap (λ x. x.fault) c.finish.ensures in
     let fits = (all.counted (long ∙ c.if-is_long.false)).1 in
     text-spans _ c.rest.new.out.items (last ends) (ends_ok r c.loop-piece.out.items c.rest.new.out.items c.args.most _ all fits
+    (λ f some. (c.in-Ok-rest.ensures.still f (same ∙ some)).0)
+    (λ none. rw c.finish.ensures at (c.in-Ok-rest.ensures.reads (same ∙ none) (sym c.is_long.ensures ∙ c.if-is_long.false))))
+
+pub returns-in-Ok-rest-clause-bytes : goal.returns-in-Ok-rest-clause-bytes
+returns-in-Ok-rest-clause-bytes c =
+    let r = c.loop-piece.reader in
+    let all : IsFed r c.loop-piece.out.items c.args.most (flat_map (λ (v : Vec ℕ Global). v.items) c.args.pieces.now)
+    = rw (take_all c.loop-piece.piece-index c.args.pieces.now c.loop-piece-test.false) at c.loop-piece.invariant in
+    let long : r.long ≡ c.is_long.result = sym (ap (λ x. x.long) c.finish.ensures) ∙ sym c.is_long.ensures in
+    let same : c.finish.new.self.fault ≡ r.fault = ap (λ x. x.fault) c.finish.ensures in
+    let fits = (all.counted (long ∙ c.if-is_long.false)).1 in
+    text_tokens _ c.rest.new.out.items (last ends) (ends_ok r c.loop-piece.out.items c.rest.new.out.items c.args.most _ all fits
     (λ f some. (c.in-Ok-rest.ensures.still f (same ∙ some)).0)
     (λ none. rw c.finish.ensures at (c.in-Ok-rest.ensures.reads (same ∙ none) (sym c.is_long.ensures ∙ c.if-is_long.false))))
 

@@ -1,35 +1,48 @@
-use Rattle.std.proofs.Common.{◌≡◌, ◌∙◌, ap, codes}
-use Rattle.hol_types.specs.Ty.{Ty, BoolTy, FunTy}
-use Rattle.hol_types.specs.TypeStore.{type_tree}
-use Rattle.hol_terms.specs.Term.{ConstTm}
-use Rattle.hol_terms.specs.Constants.{FunTy2}
-use Rattle.lcf_kernel.proofs.KeepLemmas.{at_keeps}
+use Rattle.hol_terms.proofs.KeepsLemmas.{keeps_trans}
+use Rattle.lcf_kernel.proofs.KeepLemmas.{at_keeps, type_keeps}
 use Rattle.lcf_kernel.proofs.formula.Constants.new.Goals as goal
 
-pub constant-requires-3 : goal.constant-requires-3
-constant-requires-3 g c = c.constant-2.ensures.keeps.types _ (c.constant.ensures.keeps.types _ (c.known_type-3.ensures.keeps.types _ (c.known_type-2.ensures.keeps.types _ c.in_ok-bool.ensures.there)))
+pub binary-requires-2 : goal.binary-requires-2
+binary-requires-2 g c = type_keeps _ _ c.binary.ensures.keeps _ _ c.in_ok-bool.ensures.is
+
+pub binary-requires-3 : goal.binary-requires-3
+binary-requires-3 g c = type_keeps _ _ (keeps_trans c.binary.ensures.keeps c.binary-2.ensures.keeps) _ _ c.in_ok-bool.ensures.is
+
+pub unary-requires : goal.unary-requires
+unary-requires g c = type_keeps _ _ (keeps_trans c.binary.ensures.keeps (keeps_trans c.binary-2.ensures.keeps c.binary-3.ensures.keeps)) _ _ c.in_ok-bool.ensures.is
+
+pub truth_value-requires : goal.truth_value-requires
+truth_value-requires g c =
+    type_keeps _ _ (keeps_trans c.binary.ensures.keeps (keeps_trans c.binary-2.ensures.keeps (keeps_trans c.binary-3.ensures.keeps c.unary.ensures.keeps))) _ _ c.in_ok-bool.ensures.is
+
+pub truth_value-requires-2 : goal.truth_value-requires-2
+truth_value-requires-2 g c =
+    type_keeps _ _ (keeps_trans c.binary.ensures.keeps (keeps_trans c.binary-2.ensures.keeps (keeps_trans c.binary-3.ensures.keeps (keeps_trans c.unary.ensures.keeps c.truth_value.ensures.keeps)))) _ _ c.in_ok-bool.ensures.is
 
 pub returns-clause-are : goal.returns-clause-are
 returns-clause-are g c =
-    -- the types stay as the store goes on
-    let bool_there_2 = c.known_type-2.ensures.keeps.types _ c.in_ok-bool.ensures.there in
-    let bool_there_3 = c.known_type-3.ensures.keeps.types _ bool_there_2 in
-    let bool_there_4 = c.constant.ensures.keeps.types _ bool_there_3 in
-    let unary_there_3 = c.known_type-3.ensures.keeps.types _ c.in_ok-unary.ensures.there in
-    let bool = c.in_ok-bool.ensures.tree in
-    let bool_2 = c.known_type-2.ensures.keeps.type_trees _ c.in_ok-bool.ensures.there in
-    let bool_3 = c.known_type-3.ensures.keeps.type_trees _ bool_there_2 in
-    let bool_4 = c.constant.ensures.keeps.type_trees _ bool_there_3 in
-    let bool_5 = c.constant-2.ensures.keeps.type_trees _ bool_there_4 in
-    let unary = c.in_ok-unary.ensures.tree in
-    let unary_3 = c.known_type-3.ensures.keeps.type_trees _ c.in_ok-unary.ensures.there in
-    let unary_4 = c.constant.ensures.keeps.type_trees _ unary_there_3 in
-    let binary = c.in_ok-binary.ensures.tree in
-    let bool_is : type_tree (g.S.Terms.store c.constant-2.new.store).types c.in_ok-bool.bool ≡ BoolTy = cc in
-    let unary_is : type_tree (g.S.Terms.store c.constant.new.store).types c.in_ok-unary.unary ≡ FunTy BoolTy BoolTy = cc in
-    let binary_is : type_tree (g.S.Terms.store c.known_type-3.new.store).types c.in_ok-binary.binary ≡ FunTy2 BoolTy BoolTy BoolTy = cc in
+    let from_truth = c.new.ensures.keeps in
+    let from_falsity = keeps_trans c.truth_value-2.ensures.keeps from_truth in
+    let from_not = keeps_trans c.truth_value.ensures.keeps from_falsity in
+    let from_or = keeps_trans c.unary.ensures.keeps from_not in
+    let from_and = keeps_trans c.binary-3.ensures.keeps from_or in
+    let from_imp = keeps_trans c.binary-2.ensures.keeps from_and in
+    let from_bool = keeps_trans c.binary.ensures.keeps from_imp in
     record {
-      imp = at_keeps _ _ c.constant-3.ensures.keeps _ _ (at_keeps _ _ c.constant-2.ensures.keeps _ _ (record { there = c.in_ok-imp.ensures.there; is = c.in_ok-imp.ensures.tree ∙ ap (λ (t : Ty). ConstTm (codes "=>") t) binary_is }));
-      not = at_keeps _ _ c.constant-3.ensures.keeps _ _ (record { there = c.in_ok-not.ensures.there; is = c.in_ok-not.ensures.tree ∙ ap (λ (t : Ty). ConstTm (codes "not") t) unary_is });
-      falsity = record { there = c.in_ok-falsity.ensures.there; is = c.in_ok-falsity.ensures.tree ∙ ap (λ (t : Ty). ConstTm (codes "false") t) bool_is };
+      imp = at_keeps _ _ from_imp _ _ c.in_ok-imp.ensures.is;
+      not = at_keeps _ _ from_not _ _ c.in_ok-not.ensures.is;
+      falsity = at_keeps _ _ from_falsity _ _ c.in_ok-falsity.ensures.is;
+      truth = at_keeps _ _ from_truth _ _ c.in_ok-truth.ensures.is;
+      and = at_keeps _ _ from_and _ _ c.in_ok-and.ensures.is;
+      or = at_keeps _ _ from_or _ _ c.in_ok-or.ensures.is;
+      bool = type_keeps _ _ from_bool _ _ c.in_ok-bool.ensures.is;
+      names = c.in_ok-names.ensures.are;
     }
+
+pub returns-in_err-names-clause-keeps : goal.returns-in_err-names-clause-keeps
+returns-in_err-names-clause-keeps g c =
+    keeps_trans c.bool_type.ensures.keeps (keeps_trans c.binary.ensures.keeps (keeps_trans c.binary-2.ensures.keeps (keeps_trans c.binary-3.ensures.keeps (keeps_trans c.unary.ensures.keeps (keeps_trans c.truth_value.ensures.keeps (keeps_trans c.truth_value-2.ensures.keeps c.new.ensures.keeps))))))
+
+pub returns-clause-keeps : goal.returns-clause-keeps
+returns-clause-keeps g c =
+    keeps_trans c.bool_type.ensures.keeps (keeps_trans c.binary.ensures.keeps (keeps_trans c.binary-2.ensures.keeps (keeps_trans c.binary-3.ensures.keeps (keeps_trans c.unary.ensures.keeps (keeps_trans c.truth_value.ensures.keeps (keeps_trans c.truth_value-2.ensures.keeps c.new.ensures.keeps))))))

@@ -1,0 +1,2 @@
+pub mod SmallPlan
+pub mod TestLemmas

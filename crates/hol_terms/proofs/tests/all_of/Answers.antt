@@ -1,4 +1,0 @@
-use Rattle.hol_terms.proofs.tests.all_of.Goals as goal
-
-pub intern-requires-3 : goal.intern-requires-3
-intern-requires-3 g c = (c.in_ok-truth.ensures.there, c.in_ok-truth.ensures.keeps.terms c.in_ok-b.b c.in_ok-b.ensures.there)

@@ -1,5 +1,0 @@
-use Rattle.lcf_kernel.proofs.KeepLemmas.{inside_keeps}
-use Rattle.lcf_kernel.proofs.kernel.KernelTerms.instance.Goals as goal
-
-pub invariant_of-self : goal.invariant_of-self
-invariant_of-self c = inside_keeps _ _ c.instance-made.ensures.keeps _ _ c.self.invariant
