@@ -1,0 +1,4 @@
+pub mod ApplyLemmas
+pub mod MatchLemmas
+pub mod TypeLemmas
+pub mod OccurLemmas

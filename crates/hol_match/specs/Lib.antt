@@ -1,0 +1,4 @@
+pub mod Applying
+pub mod Inst
+pub mod Instance
+pub mod Matching
