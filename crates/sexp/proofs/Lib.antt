@@ -10,3 +10,4 @@ pub mod SpanLemmas
 pub mod TreeLemmas
 pub mod GrowLemmas
 pub mod TokenBytesLemmas
+pub mod TreeBytesLemmas

@@ -8,8 +8,6 @@ use Rattle.sexp.specs.Reading.{answers_from, AlwaysAnswers, IsStop}
 use Rattle.sexp.specs.declared.answer.Pending.{Pending}
 use Rattle.sexp.specs.declared.answer.Pending.TheVariants.{Nothing, Shown, Held}
 use Rattle.sexp.specs.declared.token.SexpFault.{SexpFault}
-use Rattle.sexp.specs.declared.token.SexpFault.TheVariants as faults
-use Rattle.sexp.specs.declared.token.Token.{Token}
 use Rattle.sexp.specs.declared.token.TokenKind.TheVariants as kinds
 use Rattle.sexp.specs.declared.token.SexpFault.TheVariants.{Unopened, TooDeep}
 use Rattle.sexp.specs.declared.nest.Frame.{Frame}

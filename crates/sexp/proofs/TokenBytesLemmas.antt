@@ -1,11 +1,10 @@
 -- The tokens of each text are what stands in it.
-use Rattle.std.proofs.Common.{inl, inr, ◌≡◌, ℕ, zero, suc, ◌+◌, ◌<◌, ◌≤◌, ◌==◌, List, [], ◌∷◌, Bool, true, false, ◌&&◌, ◌||◌, not, nat_le, nat_lt, length, get_or, refl, sym, ap, ◌∙◌, arith, if◌then◌else◌}
-use Rattle.std.specs.Prelude.{All}
+use Rattle.std.proofs.Common.{inl, inr, ◌≡◌, ℕ, zero, suc, ◌+◌, ◌<◌, ◌≤◌, ◌==◌, List, [], ◌∷◌, Bool, true, false, ◌&&◌, ◌||◌, not, nat_le, nat_lt, length, get_or, refl, sym, ◌∙◌, arith, if◌then◌else◌}
 use Rattle.std.proofs.lemmas.Bool.{eqb-true}
 use Rattle.std.proofs.Math.Nat.{eq-or-lt_of_le}
 use Rattle.sexp.specs.Bytes.{class_of, stands_in_bars, is_white, is_letter}
-use Rattle.sexp.specs.TokenBytes.{is_of_atom, is_within_bars, IsFree, IsAtom, IsQuoted, IsByte, HasBytes, IsTokenOf, AreTokensOf}
-use Rattle.sexp.specs.Text.{Ending, more, ends, faulty, Words, word, stop, token_of, atom_of, begin_at, in_atom, at_byte, at_end, words_from}
+use Rattle.sexp.specs.TokenBytes.{is_of_atom, is_within_bars, IsFree, HasBytes, IsTokenOf, AreTokensOf}
+use Rattle.sexp.specs.Text.{more, ends, faulty, Words, word, stop, token_of, atom_of, begin_at, in_atom, at_byte, at_end, words_from}
 use Rattle.sexp.specs.Depth.{depth_of}
 use Rattle.sexp.specs.Nesting.{Answers, last, token, answers_of, at_word, at_limit, at_close, opened}
 use Rattle.sexp.specs.Tokens.{answers_to, prepend}

@@ -1,5 +1,5 @@
 -- What a reader that is fed in pieces still answers.
-use Rattle.std.proofs.Common.{◌≡◌, ℕ, flat_map, take, get_or, ◌+◌, List, [], ◌∷◌, ◌++◌, refl, ap, sym, ◌∙◌, Bool, true, false, length, ◌≤◌, ◌<◌, ◌≢◌, ◌⊎◌, inl, inr, ◌||◌, append_assoc, length-append, arith, Option, Some, None, is_some, Result, Ok, Err, IfSome}
+use Rattle.std.proofs.Common.{◌≡◌, ℕ, flat_map, take, get_or, ◌+◌, List, [], ◌∷◌, ◌++◌, refl, ap, sym, ◌∙◌, Bool, true, false, length, ◌≤◌, ◌<◌, ◌≢◌, ◌⊎◌, inl, inr, ◌||◌, append_assoc, length-append, arith, Option, Some, None, Result, Ok, Err, IfSome}
 use Rattle.std.proofs.lemmas.Bool.{lt-ltb, le-ltb, cases_lt}
 use Rattle.std.proofs.lemmas.List.{take_more, append-nil}
 use Rattle.std.proofs.lemmas.Option.{same_Some, none-some}
@@ -10,7 +10,7 @@ use Rattle.sexp.specs.Nesting.{Answers, last, token, answers_of}
 use Rattle.sexp.specs.Text.{ends, faulty, CanFollow, words_from}
 use Rattle.sexp.specs.Lexing.{Lexing, fed_of, words_of}
 use Rattle.sexp.specs.Reading.{Reading, answers, answers_from, fed, start_of, finished, is_whole, count_fed, fault_of, following, KeepsFed, GoesOn, StopsAt}
-use Rattle.sexp.specs.Tokens.{prepend, answers_to, IsDrained, IsRest, IsFaultOf}
+use Rattle.sexp.specs.Tokens.{prepend, answers_to, IsDrained, IsFaultOf}
 use Rattle.sexp.specs.declared.token.SexpFault.{SexpFault}
 use Rattle.sexp.specs.declared.token.SexpFault.TheVariants as faults
 use Rattle.sexp.specs.declared.token.Next.{Next}

@@ -20,48 +20,48 @@ use Rattle.sexp.proofs.ForestLemmas.{trees_at-step, trees_at-none, tree_at-is}
 use Rattle.sexp.proofs.SpanLemmas.{text-orderly}
 
 -- the number of the first record behind the end of a list round the tokens
-abbrev end_of : List Token → ℕ → ℕ → ℕ
+abbrev pub end_of : List Token → ℕ → ℕ → ℕ
 end_of ts k n = (closing ts k n).1
 
 -- What one token does to the records, and to the trees behind so many lists.
-closing-open : (t : Token) (ts : List Token) (k n : ℕ) → t.kind ≡ kinds.Open → end_of (t ∷ ts) k n ≡ end_of ts (suc k) (n + 1)
+pub closing-open : (t : Token) (ts : List Token) (k n : ℕ) → t.kind ≡ kinds.Open → end_of (t ∷ ts) k n ≡ end_of ts (suc k) (n + 1)
 unfolding closing
 closing-open t ts k n is = rw is refl
 
-closing-close : (t : Token) (ts : List Token) (n : ℕ) → t.kind ≡ kinds.Close → end_of (t ∷ ts) 0 n ≡ n
+pub closing-close : (t : Token) (ts : List Token) (n : ℕ) → t.kind ≡ kinds.Close → end_of (t ∷ ts) 0 n ≡ n
 unfolding closing
 closing-close t ts n is = rw is refl
 
-closing-outer : (t : Token) (ts : List Token) (k n : ℕ) → t.kind ≡ kinds.Close → end_of (t ∷ ts) (suc k) n ≡ end_of ts k n
+pub closing-outer : (t : Token) (ts : List Token) (k n : ℕ) → t.kind ≡ kinds.Close → end_of (t ∷ ts) (suc k) n ≡ end_of ts k n
 unfolding closing
 closing-outer t ts k n is = rw is refl
 
-closing-atom : (t : Token) (ts : List Token) (k n : ℕ) → t.kind ≡ kinds.Atom → end_of (t ∷ ts) k n ≡ end_of ts k (n + 1)
+pub closing-atom : (t : Token) (ts : List Token) (k n : ℕ) → t.kind ≡ kinds.Atom → end_of (t ∷ ts) k n ≡ end_of ts k (n + 1)
 unfolding closing
 closing-atom t ts k n is = rw is refl
 
-closing-quoted : (t : Token) (ts : List Token) (k n : ℕ) → t.kind ≡ kinds.Quoted → end_of (t ∷ ts) k n ≡ end_of ts k (n + 1)
+pub closing-quoted : (t : Token) (ts : List Token) (k n : ℕ) → t.kind ≡ kinds.Quoted → end_of (t ∷ ts) k n ≡ end_of ts k (n + 1)
 unfolding closing
 closing-quoted t ts k n is = rw is refl
 
-closing-none : (k n : ℕ) → end_of [] k n ≡ n
+pub closing-none : (k n : ℕ) → end_of [] k n ≡ n
 unfolding closing
 closing-none k n = refl
 
 module _ (bytes : List ℕ) where
-  records-open : (t : Token) (ts : List Token) (n : ℕ) → t.kind ≡ kinds.Open → records bytes (t ∷ ts) n ≡ list_of t.start (closing ts 0 (n + 1)) ∷ records bytes ts (n + 1)
+  pub records-open : (t : Token) (ts : List Token) (n : ℕ) → t.kind ≡ kinds.Open → records bytes (t ∷ ts) n ≡ list_of t.start (closing ts 0 (n + 1)) ∷ records bytes ts (n + 1)
   unfolding records
   records-open t ts n is = rw is refl
 
-  records-close : (t : Token) (ts : List Token) (n : ℕ) → t.kind ≡ kinds.Close → records bytes (t ∷ ts) n ≡ records bytes ts n
+  pub records-close : (t : Token) (ts : List Token) (n : ℕ) → t.kind ≡ kinds.Close → records bytes (t ∷ ts) n ≡ records bytes ts n
   unfolding records
   records-close t ts n is = rw is refl
 
-  records-atom : (t : Token) (ts : List Token) (n : ℕ) → t.kind ≡ kinds.Atom → records bytes (t ∷ ts) n ≡ leaf (AtomBody (atom_text bytes t)) t n ∷ records bytes ts (n + 1)
+  pub records-atom : (t : Token) (ts : List Token) (n : ℕ) → t.kind ≡ kinds.Atom → records bytes (t ∷ ts) n ≡ leaf (AtomBody (atom_text bytes t)) t n ∷ records bytes ts (n + 1)
   unfolding records
   records-atom t ts n is = rw is refl
 
-  records-quoted : (t : Token) (ts : List Token) (n : ℕ) → t.kind ≡ kinds.Quoted → records bytes (t ∷ ts) n ≡ leaf (QuotedBody (quoted_text bytes t)) t n ∷ records bytes ts (n + 1)
+  pub records-quoted : (t : Token) (ts : List Token) (n : ℕ) → t.kind ≡ kinds.Quoted → records bytes (t ∷ ts) n ≡ leaf (QuotedBody (quoted_text bytes t)) t n ∷ records bytes ts (n + 1)
   unfolding records
   records-quoted t ts n is = rw is refl
 
@@ -127,14 +127,14 @@ module _ (bytes : List ℕ) (rs : List Kept) where
       let counted : length (drop n rs) ≡ suc (length others) = ap length (s.rest ∙ e) in
       omega (arith, length-drop n rs)
 
-  next_is : (ts : List Token) (n : ℕ) (r : Kept) (others : List Kept) → Stands ts n → records bytes ts n ≡ r ∷ others → kept_at rs n ≡ r
+  pub next_is : (ts : List Token) (n : ℕ) (r : Kept) (others : List Kept) → Stands ts n → records bytes ts n ≡ r ∷ others → kept_at rs n ≡ r
   next_is ts n r others s e =
       let d : Kept = record { start = 0; end = 0; body = ListBody; after = 0 } in
       let at : get_or (drop n rs) 0 d ≡ get_or rs (n + 0) d = get_or-drop n rs 0 d in
       let same : n + 0 ≡ n = omega arith in
       sym (rw same at at) ∙ ap (λ l. kept_at l 0) (s.rest ∙ e)
 
-  next_stands : (ts us : List Token) (n : ℕ) (r : Kept) → Stands ts n → records bytes ts n ≡ r ∷ records bytes us (n + 1) → Stands us (n + 1)
+  pub next_stands : (ts us : List Token) (n : ℕ) (r : Kept) → Stands ts n → records bytes ts n ≡ r ∷ records bytes us (n + 1) → Stands us (n + 1)
   next_stands ts us n r s e =
       let below = next_below ts n r (records bytes us (n + 1)) s e in
       record { fits = omega arith; rest = sym (drop-drop 1 n rs) ∙ ap (drop 1) (s.rest ∙ e) }
@@ -211,10 +211,10 @@ module _ (bytes : List ℕ) (rs : List Kept) where
     parts = ih.parts;
   }
 
-  closed_stands : (t : Token) (ts : List Token) (n : ℕ) → t.kind ≡ kinds.Close → Stands (t ∷ ts) n → Stands ts n
+  pub closed_stands : (t : Token) (ts : List Token) (n : ℕ) → t.kind ≡ kinds.Close → Stands (t ∷ ts) n → Stands ts n
   closed_stands t ts n close s = record { fits = s.fits; rest = s.rest ∙ records-close bytes t ts n close }
 
-  all_left : (n : ℕ) → Stands [] n → n ≡ length rs
+  pub all_left : (n : ℕ) → Stands [] n → n ≡ length rs
   all_left n s =
       let counted : length (drop n rs) ≡ 0 = ap length (s.rest ∙ records-none bytes n) in
       let fits = s.fits in
@@ -370,7 +370,7 @@ are_nested (token t rest) k from to orderly =
     IfOk-mapped (λ ts. t ∷ ts) (λ ts. Nested ts k) (tokens_or_fault rest)
     (nested_by t.kind k (λ inner. IsOrderly rest inner t.end to) (tokens_or_fault rest) orderly.1 (λ i is. are_nested rest i t.end to is))
 
-same_value : {X : Type 0} (x y : X) → ◌≡◌ {A = Result X SexpFault} (Ok x) (Ok y) → x ≡ y
+pub same_value : {X : Type 0} (x y : X) → ◌≡◌ {A = Result X SexpFault} (Ok x) (Ok y) → x ≡ y
 same_value x y e = same_Some x y (ap result_ok e)
 
 trees_of : (text : List ℕ) (rs : List Kept) (read : Result (List Token) SexpFault) → IfOk read (λ ts. Nested ts 0)

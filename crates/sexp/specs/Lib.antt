@@ -12,4 +12,5 @@ pub mod TextTrees
 pub mod Spans
 pub mod Texts
 pub mod TokenBytes
+pub mod TreeBytes
 pub mod Growing

@@ -4,6 +4,7 @@ ghost use Rattle.sexp.specs.Forest.{kept_at, tree_at, trees_at, after_of, rec_at
 ghost use Rattle.sexp.specs.Reading.{count_fed, is_whole, KeepsFed};
 ghost use Rattle.sexp.specs.Growing.{GrowsFrom};
 ghost use Rattle.sexp.specs.TextTrees.{forest_of, records_of, unless_long, Gives};
+ghost use Rattle.sexp.specs.TreeBytes.{AreTreesOf};
 
 use crate::grow::add_token;
 use crate::reader::Reader;
@@ -86,11 +87,13 @@ fn read_records(alloc: Global, bytes: &[u8], most: u64) -> Result<Records, SexpF
     Ok(records)
 }
 
-/// Reads the trees of a text of at most `most` bytes.
+/// Reads the trees of a text of at most `most` bytes. Each is what stands in the text where its record says, a list from its
+/// opening parenthesis up to behind the one that closes it.
 pub fn read_forest(alloc: Global, bytes: &[u8], most: u64) -> Result<Forest, SexpFault>
     requires { most < 2 ^ 32 }
     ensures trees { Gives (λ forest. trees_at forest 0 (length forest)) result (unless_long most bytes.now (forest_of bytes.now)) }
     ensures records { Gives (λ forest. forest) result (unless_long most bytes.now (records_of bytes.now)) }
+    ensures bytes { IfOk result (λ forest. AreTreesOf bytes.now forest) }
 {
     if bytes.len() as u64 > most {
         return Err(SexpFault::TooLong(most));

@@ -1,4 +1,4 @@
-use Rattle.std.proofs.Common.{ap, sym, ◌≡◌, ◌∙◌, refl, true, length, reverse, drop}
+use Rattle.std.proofs.Common.{ap, sym, ◌≡◌, ◌∙◌, true, length, reverse, drop}
 use Rattle.std.proofs.lemmas.List.{length-reverse}
 use Rattle.sexp.specs.Text.{CanFollow}
 use Rattle.sexp.specs.Reading.{answers, count_fed, is_whole, fault_of}

@@ -1,6 +1,6 @@
-use Rattle.std.proofs.Common.{ap, ◌≡◌, ◌≤◌, ◌+◌, ◌-◌, length, reverse, take, drop, arith}
-use Rattle.sexp.specs.Reading.{count_fed, is_whole, fed}
-use Rattle.sexp.proofs.GrowLemmas.{FedOn, grows_at_start, grows_fed, grows_finished}
+use Rattle.std.proofs.Common.{ap, ◌≡◌, ◌+◌, ◌-◌, reverse, arith}
+use Rattle.sexp.specs.Reading.{count_fed, is_whole}
+use Rattle.sexp.proofs.GrowLemmas.{grows_at_start, grows_fed, grows_finished}
 use Rattle.sexp.proofs.forest.read_records.Goals as goal
 
 pub pieces-init : goal.pieces-init

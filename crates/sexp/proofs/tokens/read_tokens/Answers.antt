@@ -1,4 +1,4 @@
-use Rattle.std.proofs.Common.{rules, ◌≡◌, ◌≤◌, ℕ, length, flat_map, take, Vec, Global, List, ◌∙◌, ◌<◌, ap, sym, refl, true, false, arith}
+use Rattle.std.proofs.Common.{◌≡◌, ℕ, flat_map, Vec, Global, ◌∙◌, ap, sym, arith}
 use Rattle.std.proofs.lemmas.List.{take_all}
 use Rattle.sexp.specs.Text.{ends}
 use Rattle.sexp.specs.Nesting.{last}
