@@ -9,9 +9,10 @@ use Rattle.hol_terms.specs.Derivable.{Derivable}
 use Rattle.hol_terms.proofs.SetLemmas.{in_append_right}
 use Rattle.hol_terms.proofs.DerivableLemmas.{assume_in}
 use Rattle.lcf_kernel.proofs.HypLemmas.{all_hyps_formulas}
-use Rattle.lcf_kernel.specs.Constants.{AreConstants}
-use Rattle.lcf_kernel.specs.declared.formula.Constants.{Constants}
-use Rattle.lcf_kernel.specs.KernelState.{KernelState, trees, facts_of, context_of, IsKernel, HasThm, HasFormula, HasFormulas, HasNoOpen, IsContext, KeepsAll}
+use Rattle.hol_formulas.specs.Constants.{AreConstants}
+use Rattle.hol_formulas.specs.declared.formula.Constants.{Constants}
+use Rattle.lcf_kernel.specs.KernelState.{KernelState, facts_of, context_of, IsKernel, HasThm, KeepsAll}
+use Rattle.hol_formulas.specs.Formulas.{trees, HasFormula, HasFormulas, HasNoOpen, IsContext}
 
 pub falsity_bool : (s : TermStore) (c : Constants) → AreConstants s c → ty_of (term_tree s c.falsity) ≡ BoolTy
 falsity_bool s c are = ap ty_of are.falsity.is

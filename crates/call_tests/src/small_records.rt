@@ -3,12 +3,13 @@
 ghost use Rattle.std.specs.Prelude.{◌≡◌, IfOk};
 ghost use Rattle.hol_terms.specs.Substitution.{IsClosed};
 ghost use Rattle.hol_terms.specs.TermStore.{HasTerm, term_tree};
-ghost use Rattle.lcf_kernel.specs.KernelState.{HasThm, HasFormula, IsKernel};
-ghost use Rattle.lcf_kernel.specs.Constants.{AreConstants};
+ghost use Rattle.lcf_kernel.specs.KernelState.{HasThm, IsKernel};
+ghost use Rattle.hol_formulas.specs.Formulas.{HasFormula};
+ghost use Rattle.hol_formulas.specs.Constants.{AreConstants};
 
 use hol_terms::{Base, Frozen, TermId, Terms};
 use hol_types::{List, Subst};
-use lcf_kernel::formula::{Constants, make_not};
+use hol_formulas::formula::{Constants, make_not};
 use lcf_kernel::{Kernel, RuleFault, ThmId};
 use std::alloc::Global;
 use std::process::Abort;

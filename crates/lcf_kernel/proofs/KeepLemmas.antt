@@ -9,70 +9,29 @@ use Rattle.hol_types.proofs.Places.{slice_get-push}
 use Rattle.hol_terms.specs.Term.{Term}
 use Rattle.hol_terms.specs.TermStore.{TermStore, term_tree, Keeps}
 use Rattle.hol_types.specs.Ty.{Ty}
-use Rattle.lcf_kernel.specs.Constants.{IsAt, IsType, IsName, AreNames, AreConstants}
+use Rattle.hol_formulas.specs.Constants.{IsAt, IsType, IsName, AreNames, AreConstants}
 use Rattle.lcf_kernel.specs.Hyps.{Rises, SameIds}
-use Rattle.lcf_kernel.specs.declared.formula.Constants.{Constants}
-use Rattle.lcf_kernel.specs.declared.formula.Names.{Names}
+use Rattle.hol_formulas.specs.declared.formula.Constants.{Constants}
+use Rattle.hol_formulas.specs.declared.formula.Names.{Names}
 use Rattle.lcf_kernel.specs.declared.kernel.Records.{Records}
 use Rattle.lcf_kernel.specs.declared.thm.Thm.{Thm}
 use Rattle.hol_terms.proofs.KeepsLemmas.{keeps_refl, keeps_trans}
 use Rattle.lcf_kernel.specs.declared.thm.Made.TheVariants.{Rule}
-use Rattle.lcf_kernel.specs.KernelState.{KernelState, records_of, trees, HasThm, thm_at, is_adopted, is_opened, adopted_of, opened_of, with_thm, HasFormula, HasFormulas, IsContext, AreHyps, IsThm, IsKernel, IsInside, KeepsRecords, KeepsAll}
+use Rattle.lcf_kernel.specs.KernelState.{KernelState, records_of, HasThm, thm_at, is_adopted, is_opened, adopted_of, opened_of, with_thm, AreHyps, IsThm, IsKernel, IsInside, KeepsRecords, KeepsAll}
+use Rattle.hol_formulas.specs.Formulas.{trees, HasFormula, HasFormulas, IsContext}
+use Rattle.hol_formulas.proofs.GrowthLemmas.{trees_keep, constants_keep, formula_keeps, formulas_keep, context_keeps}
 
 -- ---- a store that goes on
 
 module _ (s u : TermStore) (keeps : Keeps s u) where
-  pub trees_keep : (ts : List ℕ) → HasFormulas s ts → trees u ts ≡ trees s ts
-  trees_keep [] all = refl
-  trees_keep (t ∷ ts) all =
-      let e = keeps.trees t (all.each t (inl refl)).there in
-      let r = trees_keep ts (record { each = λ v h. all.each v (inr h) }) in
-      cc
-
-  pub at_keeps : (t : ℕ) (tree : Term) → IsAt s t tree → IsAt u t tree
-  at_keeps t tree h = record { there = keeps.terms t h.there; is = keeps.trees t h.there ∙ h.is }
-
-  pub type_keeps : (t : ℕ) (tree : Ty) → IsType s t tree → IsType u t tree
-  type_keeps t tree h = record { there = keeps.types t h.there; is = keeps.type_trees t h.there ∙ h.is }
-
-  pub name_keeps : (n : ℕ) (text : List ℕ) → IsName s n text → IsName u n text
-  name_keeps n text h = record { there = keeps.names n h.there; is = keeps.texts n h.there ∙ h.is }
-
-  pub names_keep : (n : Names) → AreNames s n → AreNames u n
-  names_keep n h = record { eq = name_keeps _ _ h.eq; ite = name_keeps _ _ h.ite; all = name_keeps _ _ h.all; ex = name_keeps _ _ h.ex; choice = name_keeps _ _ h.choice }
-
-  pub constants_keep : (c : Constants) → AreConstants s c → AreConstants u c
-  constants_keep c h = record {
-    imp = at_keeps _ _ h.imp;
-    not = at_keeps _ _ h.not;
-    falsity = at_keeps _ _ h.falsity;
-    truth = at_keeps _ _ h.truth;
-    and = at_keeps _ _ h.and;
-    or = at_keeps _ _ h.or;
-    bool = type_keeps _ _ h.bool;
-    names = names_keep c.names h.names;
-  }
-
-  pub formula_keeps : (t : ℕ) → HasFormula s t → HasFormula u t
-  formula_keeps t h = record { there = keeps.terms t h.there; formula = rw (keeps.trees t h.there) h.formula }
-
-  pub formulas_keep : (ts : List ℕ) → HasFormulas s ts → HasFormulas u ts
-  formulas_keep ts all = record { each = λ t h. formula_keeps t (all.each t h) }
-
-  pub context_keeps : (ts : List ℕ) → IsContext s ts → IsContext u ts
-  context_keeps ts h = record {
-    formulas = formulas_keep ts h.formulas;
-    no_open = λ t i. rw (keeps.trees t (h.formulas.each t i).there) (h.no_open t i);
-  }
-
   pub hyps_keep : (context hyps : List ℕ) → AreHyps s context hyps → AreHyps u context hyps
-  hyps_keep context hyps h = record { formulas = formulas_keep hyps h.formulas; rises = h.rises; outside = h.outside }
+  hyps_keep context hyps h = record { formulas = formulas_keep s u keeps hyps h.formulas; rises = h.rises; outside = h.outside }
 
   pub thm_keeps : (facts context : List ℕ) (r : Thm) → HasFormulas s facts → HasFormulas s context → IsThm s facts context r → IsThm u facts context r
   thm_keeps facts context r fs cs thm = record {
-    concl = formula_keeps r.concl thm.concl;
+    concl = formula_keeps s u keeps r.concl thm.concl;
     hyps = hyps_keep context r.hyps thm.hyps;
-    follows = rw (trees_keep facts fs, trees_keep context cs, trees_keep r.hyps thm.hyps.formulas, keeps.trees r.concl thm.concl.there) thm.follows;
+    follows = rw (trees_keep s u keeps facts fs, trees_keep s u keeps context cs, trees_keep s u keeps r.hyps thm.hyps.formulas, keeps.trees r.concl thm.concl.there) thm.follows;
   }
 
 module _ (k : KernelState) (u : TermStore) (keeps : Keeps k.store u) where

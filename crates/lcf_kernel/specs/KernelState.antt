@@ -9,8 +9,8 @@ use Rattle.hol_terms.specs.TermStore.{TermStore, HasTerm, term_tree, Keeps}
 use Rattle.hol_terms.specs.Formula.{In, IsFormula, AllFormulas, SameMembers}
 use Rattle.hol_terms.specs.Derivable.{Derivable}
 use Rattle.lcf_kernel.specs.Hyps.{Rises, SameIds}
-use Rattle.lcf_kernel.specs.Constants.{AreConstants}
-use Rattle.lcf_kernel.specs.declared.formula.Constants.{Constants}
+use Rattle.hol_formulas.specs.Constants.{AreConstants}
+use Rattle.hol_formulas.specs.declared.formula.Constants.{Constants}
 use Rattle.lcf_kernel.specs.declared.kernel.Records.{Records}
 use Rattle.lcf_kernel.specs.declared.thm.Made.{Made}
 use Rattle.lcf_kernel.specs.declared.thm.Made.TheVariants.{Rule, Adopted, Opened}
@@ -25,10 +25,6 @@ pub record KernelState : Type 0 where
   pub context : List ℕ
   -- the records, in the order in which they were made
   pub thms : List Thm
-
--- the trees of numbers
-abbrev pub trees : TermStore → List ℕ → List Term
-trees s ts = map (λ t. term_tree s t) ts
 
 -- what it holds beside the terms
 abbrev pub records_of : KernelState → Records
@@ -93,24 +89,6 @@ abbrev pub with_thm : KernelState → Thm → KernelState
 with_thm k r = record k { thms = k.thms ++ r ∷ [] }
 
 -- ---- what is true of a kernel
-
--- the number is that of a formula
-pub record HasFormula (s : TermStore) (t : ℕ) : Type 0 where
-  pub there : HasTerm s t
-  pub formula : IsFormula (term_tree s t)
-
--- each of the numbers is that of a formula
-pub record HasFormulas (s : TermStore) (ts : List ℕ) : Type 0 where
-  pub each : (t : ℕ) → In t ts → HasFormula s t
-
--- the term has no Open variable
-pub record HasNoOpen (t : Term) : Type 0 where
-  pub none : (n : List ℕ) (ty : Ty) → In (FreeTm Open n ty) (free_variables t) → ⊥
-
--- each of the numbers is that of a formula without Open variables
-pub record IsContext (s : TermStore) (context : List ℕ) : Type 0 where
-  pub formulas : HasFormulas s context
-  pub no_open : (t : ℕ) → In t context → HasNoOpen (term_tree s t)
 
 -- hypotheses of a record: formulas outside the context, in rising order
 pub record AreHyps (s : TermStore) (context hyps : List ℕ) : Type 0 where

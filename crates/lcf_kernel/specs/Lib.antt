@@ -1,4 +1,3 @@
-pub mod Constants
 pub mod Hyps
 pub mod KernelState
 pub mod RuleForms

@@ -65,12 +65,6 @@ pub record IsExistence (said : Term) : Type 0 where
   pub body : Term
   pub is : said ≡ exists type (LamTm type body)
 
--- an Open variable
-pub record IsOpen (t : Term) : Type 0 where
-  pub name : List ℕ
-  pub type : Ty
-  pub is : t ≡ FreeTm Open name type
-
 -- functions that agree on a free variable of which neither they nor a hypothesis speaks
 pub record Agree (hyps : List Term) (said v f g : Term) : Type 0 where
   pub type : Ty

@@ -6,11 +6,12 @@ ghost use Rattle.hol_terms.specs.Substitution.{IsClosed};
 ghost use Rattle.hol_terms.specs.TermStore.{HasTerm, Keeps, TermsApart, term_tree};
 ghost use Rattle.hol_terms.specs.Formula.{IsFormula};
 ghost use Rattle.hol_terms.specs.Derivable.{Derivable};
-ghost use Rattle.lcf_kernel.specs.Constants.{AreConstants};
-ghost use Rattle.lcf_kernel.specs.KernelState.{trees, HasThm, thm_at, concl_of, hyps_of, bare_of, facts_of, context_of, all_hyps_of, adopted_of, opened_of, with_thm, HasFormula, HasFormulas, IsContext, AreHyps, IsThm, IsKernel, KeepsRecords, KeepsAll, IsOutside, GivesHyps};
+ghost use Rattle.hol_formulas.specs.Constants.{AreConstants};
+ghost use Rattle.hol_formulas.specs.Formulas.{trees, HasFormula, HasFormulas, IsContext};
+ghost use Rattle.lcf_kernel.specs.KernelState.{HasThm, thm_at, concl_of, hyps_of, bare_of, facts_of, context_of, all_hyps_of, adopted_of, opened_of, with_thm, AreHyps, IsThm, IsKernel, KeepsRecords, KeepsAll, IsOutside, GivesHyps};
 ghost use Rattle.lcf_kernel.specs.Hyps.{Rises, SameIds};
 
-use crate::formula::Constants;
+use hol_formulas::formula::Constants;
 use crate::hyps::{copied, in_order, outside};
 use crate::thm::{Made, Thm, ThmId};
 use hol_terms::{Frozen, Node, Store, TermFault, TermId, Terms};

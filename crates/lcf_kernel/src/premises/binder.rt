@@ -8,15 +8,16 @@ ghost use Rattle.hol_terms.specs.TermStore.{HasTerm, term_tree};
 ghost use Rattle.hol_terms.specs.Formula.{IsFormula, NotFreeIn, NotFreeInAny, without};
 ghost use Rattle.hol_terms.specs.Constants.{for_all, exists, chosen};
 ghost use Rattle.hol_terms.specs.Derivable.{applied, abstraction};
-ghost use Rattle.lcf_kernel.specs.KernelState.{HasThm, HasFormula, concl_of, context_of, all_hyps_of, IsKernel, KeepsAll};
+ghost use Rattle.lcf_kernel.specs.KernelState.{HasThm, concl_of, context_of, all_hyps_of, IsKernel, KeepsAll};
+ghost use Rattle.hol_formulas.specs.Formulas.{HasFormula};
 ghost use Rattle.lcf_kernel.specs.RuleForms.{IsGeneral, IsArbitrary, Agree};
 
-use crate::binder::{
+use hol_formulas::binder::{
     Binder, all_part, ex_parts, is_variable, lambda_parts, make_chosen, make_general,
 };
-use crate::formula::{Sides, apply_fitting};
+use hol_formulas::formula::{Sides, apply_fitting};
 use crate::kernel::Kernel;
-use crate::occurs::{is_open, occurs, occurs_but};
+use hol_formulas::occurs::{is_open, occurs, occurs_but};
 use crate::thm::ThmId;
 use hol_terms::{Node, TermId, Terms};
 use std::alloc::AllocError;

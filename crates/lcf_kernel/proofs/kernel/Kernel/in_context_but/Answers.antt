@@ -1,6 +1,6 @@
 use Rattle.std.proofs.Common.{refl}
 use Rattle.hol_terms.specs.TermStore.{term_tree}
-use Rattle.lcf_kernel.proofs.OccursLemmas.{absent_open_but}
+use Rattle.hol_formulas.proofs.OccursLemmas.{absent_open_but}
 use Rattle.lcf_kernel.proofs.kernel.Kernel.in_context_but.Goals as goal
 
 pub returns-then-is_open-clause-absent : goal.returns-then-is_open-clause-absent

@@ -1,7 +1,7 @@
 use Rattle.std.proofs.Common.{refl}
 use Rattle.hol_terms.specs.TermStore.{term_tree}
 use Rattle.lcf_kernel.specs.KernelState.{context_of, hyps_of}
-use Rattle.lcf_kernel.proofs.OccursLemmas.{absent_both, absent_left, absent_right}
+use Rattle.hol_formulas.proofs.OccursLemmas.{absent_both, absent_left, absent_right}
 use Rattle.lcf_kernel.proofs.kernel.Kernel.is_general.Goals as goal
 
 pub returns-then-in_hyps-clause-isnt : goal.returns-then-in_hyps-clause-isnt

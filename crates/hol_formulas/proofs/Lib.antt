@@ -1,0 +1,6 @@
+pub mod ListLemmas
+pub mod TreesLemmas
+pub mod GrowthLemmas
+pub mod ConstantLemmas
+pub mod OccursLemmas
+pub mod UnchangedLemmas
