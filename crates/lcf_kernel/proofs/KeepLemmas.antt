@@ -8,6 +8,7 @@ use Rattle.std.proofs.Math.Seq.{get_or-append_seam}
 use Rattle.hol_types.proofs.Places.{slice_get-push}
 use Rattle.hol_terms.specs.Term.{Term}
 use Rattle.hol_terms.specs.TermStore.{TermStore, term_tree, Keeps}
+use Rattle.hol_terms.specs.declared.tables.Mark.{Mark}
 use Rattle.hol_types.specs.Ty.{Ty}
 use Rattle.hol_formulas.specs.Constants.{IsAt, IsType, IsName, AreNames, AreConstants}
 use Rattle.lcf_kernel.specs.Hyps.{Rises, SameIds}
@@ -34,15 +35,15 @@ module _ (s u : TermStore) (keeps : Keeps s u) where
     follows = rw (trees_keep s u keeps facts fs, trees_keep s u keeps context cs, trees_keep s u keeps r.hyps thm.hyps.formulas, keeps.trees r.concl thm.concl.there) thm.follows;
   }
 
-module _ (k : KernelState) (u : TermStore) (keeps : Keeps k.store u) where
-  pub kernel_keeps : IsKernel k → IsKernel (record k { store = u })
+module _ (k : KernelState) (u : TermStore) (base : Mark) (keeps : Keeps k.store u) where
+  pub kernel_keeps : IsKernel k → IsKernel (record k { store = u; base = base })
   kernel_keeps is = record {
     facts = formulas_keep k.store u keeps k.facts is.facts;
     context = context_keeps k.store u keeps k.context is.context;
     thms = λ t r h. thm_keeps k.store u keeps k.facts k.context r is.facts is.context.formulas (is.thms t r h);
   }
 
-  pub inside_keeps : (c : Constants) (ordered : List ℕ) → IsInside k c ordered → IsInside (record k { store = u }) c ordered
+  pub inside_keeps : (c : Constants) (ordered : List ℕ) → IsInside k c ordered → IsInside (record k { store = u; base = base }) c ordered
   inside_keeps c ordered is = record { kernel = kernel_keeps is.kernel; constants = constants_keep k.store u keeps c is.constants; rises = is.rises; same = is.same }
 
 -- ---- records
@@ -52,10 +53,12 @@ pub thm_is : (k : KernelState) → IsKernel k → (t : ℕ) → HasThm k t → I
 thm_is k is t h = is.thms t (thm_at k t) (slice_get-get_or k.thms t _ h)
 
 -- a kernel whose terms alone have changed
-pub keeps_all_terms : (old new : KernelState) → IsKernel old → Keeps old.store new.store → new.facts ≡ old.facts → new.context ≡ old.context → new.thms ≡ old.thms → KeepsAll old new
-keeps_all_terms old new is keeps same_facts same_context same_thms = record {
+pub keeps_all_terms : (old new : KernelState) → IsKernel old → Keeps old.store new.store → new.base ≡ old.base → new.constants ≡ old.constants → new.facts ≡ old.facts → new.context ≡ old.context → new.thms ≡ old.thms → KeepsAll old new
+keeps_all_terms old new is keeps same_base same_constants same_facts same_context same_thms = record {
   records = record {
     store = keeps;
+    base = same_base;
+    constants = same_constants;
     facts = same_facts;
     context = same_context;
     fact_trees = ap (λ ts. trees new.store ts) same_facts ∙ trees_keep old.store new.store keeps old.facts is.facts;
@@ -74,7 +77,7 @@ keeps_all_terms old new is keeps same_facts same_context same_thms = record {
 
 pub keeps_all_refl : (k : KernelState) → Keeps k.store k.store → KeepsAll k k
 keeps_all_refl k keeps = record {
-  records = record { store = keeps; facts = refl; context = refl; fact_trees = refl; context_trees = refl; has = λ t h. h; thms = λ t h. refl; concls = λ t h. refl; hyps = λ t h. refl };
+  records = record { store = keeps; base = refl; constants = refl; facts = refl; context = refl; fact_trees = refl; context_trees = refl; has = λ t h. h; thms = λ t h. refl; concls = λ t h. refl; hyps = λ t h. refl };
   adopted = refl;
   opened = refl;
 }
@@ -82,6 +85,8 @@ keeps_all_refl k keeps = record {
 pub keeps_records_trans : (a b c : KernelState) → Keeps a.store c.store → KeepsRecords a b → KeepsRecords b c → KeepsRecords a c
 keeps_records_trans a b c keeps f g = record {
   store = keeps;
+  base = g.base ∙ f.base;
+  constants = g.constants ∙ f.constants;
   facts = g.facts ∙ f.facts;
   context = g.context ∙ f.context;
   fact_trees = g.fact_trees ∙ f.fact_trees;
@@ -117,6 +122,8 @@ module _ (k : KernelState) (r : Thm) where
   pub keeps_records_with : Keeps k.store k.store → KeepsRecords k (with_thm k r)
   keeps_records_with keeps = record {
     store = keeps;
+    base = refl;
+    constants = refl;
     facts = refl;
     context = refl;
     fact_trees = refl;
@@ -135,8 +142,8 @@ module _ (k : KernelState) (r : Thm) where
 
 -- ---- the first kernel
 
-pub inside_new : (base u : TermStore) → Keeps base u → (facts context ordered : List ℕ) (c : Constants) → HasFormulas base facts → IsContext base context → AreConstants u c → Rises ordered → SameIds ordered context → IsInside (record { store = u; facts = facts; context = context; thms = [] }) c ordered
-inside_new base u keeps facts context ordered c fs cs are rises same = record {
+pub inside_new : (base u : TermStore) → Keeps base u → (m : Mark) (facts context ordered : List ℕ) (c : Constants) → HasFormulas base facts → IsContext base context → AreConstants u c → Rises ordered → SameIds ordered context → IsInside (record { store = u; base = m; constants = c; facts = facts; context = context; thms = [] }) c ordered
+inside_new base u keeps m facts context ordered c fs cs are rises same = record {
   kernel = record {
     facts = formulas_keep base u keeps facts fs;
     context = context_keeps base u keeps context cs;
@@ -149,7 +156,7 @@ inside_new base u keeps facts context ordered c fs cs are rises same = record {
 
 -- a kernel whose terms alone have changed, as the calls of the trait say it
 pub keeps_all_rest : (old new : KernelState) → IsKernel old → Keeps old.store new.store → records_of new ≡ records_of old → KeepsAll old new
-keeps_all_rest old new is keeps same = keeps_all_terms old new is keeps (ap (λ (r : Records). r.facts) same) (ap (λ (r : Records). r.context) same) (ap (λ (r : Records). r.thms) same)
+keeps_all_rest old new is keeps same = keeps_all_terms old new is keeps (ap (λ (r : Records). r.base) same) (ap (λ (r : Records). r.constants) same) (ap (λ (r : Records). r.facts) same) (ap (λ (r : Records). r.context) same) (ap (λ (r : Records). r.thms) same)
 
 pub keeps_all_trans : {a b c : KernelState} → KeepsAll a b → KeepsAll b c → KeepsAll a c
 keeps_all_trans {a} {b} {c} f g = record {

@@ -1,15 +1,15 @@
 -- What a kernel holds, what is true of it, and how it goes on.
-use Rattle.std.specs.Prelude.{◌≡◌, ℕ, ◌<◌, ◌⊎◌, ◌++◌, List, [], ◌∷◌, length, map, filter, slice_get, slice_index, slice_index_or, Some, Bool, true, false, IsTrue}
-use Rattle.hol_types.specs.Ty.{Ty, BoolTy}
-use Rattle.hol_terms.specs.Term.{Term, FreeTm, ty_of}
+use Rattle.std.specs.Prelude.{◌≡◌, ℕ, ◌<◌, ◌⊎◌, ◌++◌, List, [], ◌∷◌, length, filter, slice_get, slice_index, slice_index_or, Some, Bool, true, false, IsTrue}
+use Rattle.hol_types.specs.Ty.{BoolTy}
+use Rattle.hol_terms.specs.Term.{Term, ty_of}
 use Rattle.hol_terms.specs.Constants.{false_tm, disjunction}
-use Rattle.hol_terms.specs.declared.node.FreeKind.TheVariants.{Open}
-use Rattle.hol_terms.specs.Substitution.{free_variables}
-use Rattle.hol_terms.specs.TermStore.{TermStore, HasTerm, term_tree, Keeps}
-use Rattle.hol_terms.specs.Formula.{In, IsFormula, AllFormulas, SameMembers}
+use Rattle.hol_terms.specs.declared.tables.Mark.{Mark}
+use Rattle.hol_terms.specs.TermStore.{TermStore, term_tree, Keeps}
+use Rattle.hol_terms.specs.Formula.{In, AllFormulas, SameMembers}
 use Rattle.hol_terms.specs.Derivable.{Derivable}
 use Rattle.lcf_kernel.specs.Hyps.{Rises, SameIds}
 use Rattle.hol_formulas.specs.Constants.{AreConstants}
+use Rattle.hol_formulas.specs.Formulas.{trees, HasFormula, HasFormulas, IsContext}
 use Rattle.hol_formulas.specs.declared.formula.Constants.{Constants}
 use Rattle.lcf_kernel.specs.declared.kernel.Records.{Records}
 use Rattle.lcf_kernel.specs.declared.thm.Made.{Made}
@@ -19,6 +19,10 @@ use Rattle.lcf_kernel.specs.declared.thm.Thm.{Thm}
 pub record KernelState : Type 0 where
   -- the names, types and terms
   pub store : TermStore
+  -- how much of them is the base's
+  pub base : Mark
+  -- the numbers of HOL's constants
+  pub constants : Constants
   -- the numbers of the facts
   pub facts : List ℕ
   -- the numbers of the formulas that are hypotheses of each record
@@ -28,7 +32,7 @@ pub record KernelState : Type 0 where
 
 -- what it holds beside the terms
 abbrev pub records_of : KernelState → Records
-records_of k = record { facts = k.facts; context = k.context; thms = k.thms }
+records_of k = record { base = k.base; constants = k.constants; facts = k.facts; context = k.context; thms = k.thms }
 
 -- ---- records
 
@@ -121,9 +125,11 @@ pub record IsInside (k : KernelState) (numbers : Constants) (ordered : List ℕ)
 
 -- ---- how a kernel goes on
 
--- facts, context and earlier terms and records stay
+-- base, facts, context and earlier terms and records stay
 pub record KeepsRecords (old new : KernelState) : Type 0 where
   pub store : Keeps old.store new.store
+  pub base : new.base ≡ old.base
+  pub constants : new.constants ≡ old.constants
   pub facts : new.facts ≡ old.facts
   pub context : new.context ≡ old.context
   pub fact_trees : facts_of new ≡ facts_of old

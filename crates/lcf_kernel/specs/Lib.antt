@@ -1,3 +1,4 @@
 pub mod Hyps
 pub mod KernelState
 pub mod RuleForms
+pub mod Marks

@@ -1,8 +1,7 @@
 -- What some rules ask of conclusions and terms.
-use Rattle.std.specs.Prelude.{◌≡◌, ℕ, List}
+use Rattle.std.specs.Prelude.{◌≡◌, List}
 use Rattle.hol_types.specs.Ty.{Ty}
-use Rattle.hol_terms.specs.Term.{Term, FreeTm, AppTm, LamTm, ty_of}
-use Rattle.hol_terms.specs.declared.node.FreeKind.TheVariants.{Open}
+use Rattle.hol_terms.specs.Term.{Term, AppTm, LamTm, ty_of}
 use Rattle.hol_terms.specs.Substitution.{subst_bound, IsFreeVariable}
 use Rattle.hol_terms.specs.Formula.{NotFreeIn, NotFreeInAny, without}
 use Rattle.hol_terms.specs.Constants.{equation, negation, for_all, exists}

@@ -8,13 +8,15 @@ ghost use Rattle.hol_terms.specs.Formula.{IsFormula};
 ghost use Rattle.hol_terms.specs.Derivable.{Derivable};
 ghost use Rattle.hol_formulas.specs.Constants.{AreConstants};
 ghost use Rattle.hol_formulas.specs.Formulas.{trees, HasFormula, HasFormulas, IsContext};
-ghost use Rattle.lcf_kernel.specs.KernelState.{HasThm, thm_at, concl_of, hyps_of, bare_of, facts_of, context_of, all_hyps_of, adopted_of, opened_of, with_thm, AreHyps, IsThm, IsKernel, KeepsRecords, KeepsAll, IsOutside, GivesHyps};
+ghost use Rattle.lcf_kernel.specs.KernelState.{KernelState, HasThm, thm_at, concl_of, hyps_of, bare_of, facts_of, context_of, all_hyps_of, adopted_of, opened_of, with_thm, AreHyps, IsThm, IsKernel, KeepsRecords, KeepsAll, IsOutside, GivesHyps};
 ghost use Rattle.lcf_kernel.specs.Hyps.{Rises, SameIds};
+ghost use Rattle.lcf_kernel.specs.Marks.{MayReset, cut, mark_of};
 
-use hol_formulas::formula::Constants;
 use crate::hyps::{copied, in_order, outside};
+use crate::mark::KernelMark;
 use crate::thm::{Made, Thm, ThmId};
-use hol_terms::{Frozen, Node, Store, TermFault, TermId, Terms};
+use hol_formulas::formula::Constants;
+use hol_terms::{Frozen, Mark, Node, Store, TermFault, TermId, Terms};
 use hol_types::{List, NameId, Subst, TypeFault, TypeId, TypeInstances, TypeNode};
 use std::alloc::{AllocError, Global};
 use std::marker::Model;
@@ -36,6 +38,10 @@ pub struct Kernel<'b> {
 /// What a kernel holds beside its terms.
 #[derive(Debug, Drop)]
 pub struct Records {
+    /// How much of the terms is the base's.
+    pub base: Mark,
+    /// The numbers of HOL's constants.
+    pub constants: Constants,
     /// The facts.
     pub facts: List<TermId>,
     /// The formulas that are hypotheses of each record.
@@ -49,9 +55,9 @@ impl<'b> Model for Kernel<'b> {
 
     ghost Value = { KernelState };
 
-    ghost view = { λ k. record { store = k.store.store; facts = k.facts; context = k.context; thms = k.thms.items } };
+    ghost view = { λ k. record { store = k.store.store; base = k.store.base; constants = k.constants; facts = k.facts; context = k.context; thms = k.thms.items } };
 
-    ghost invariant = { λ k. IsInside (record { store = k.store.store; facts = k.facts; context = k.context; thms = k.thms.items }) k.constants k.ordered };
+    ghost invariant = { λ k. IsInside (record { store = k.store.store; base = k.store.base; constants = k.constants; facts = k.facts; context = k.context; thms = k.thms.items }) k.constants k.ordered };
 }
 
 impl<'b> Kernel<'b> {
@@ -85,6 +91,28 @@ impl<'b> Kernel<'b> {
             thms,
             alloc,
         })
+    }
+
+    /// How much the kernel holds now: `reset` takes it back to here.
+    pub fn mark(&self) -> KernelMark
+        ensures mark { result ≡ mark_of self.now }
+        ensures whole { cut result self.now ≡ self.now }
+        ensures may_reset { MayReset result self.now }
+    {
+        let store = self.store.mark();
+        let thms = self.thms.len();
+        KernelMark { store, thms }
+    }
+
+    /// Takes away all records, names, declared constructors, types and terms that came after the mark, which is one that
+    /// this kernel gave and went on from. The kernel is as it was at the mark. It takes a step for each item that goes.
+    pub fn reset(&mut self, m: KernelMark)
+        requires { MayReset m self.old }
+        ensures cut { self.new ≡ cut m self.old }
+        ensures back { (was : KernelState) → MayReset m was → cut m was ≡ was → KeepsRecords was self.old → self.new ≡ was }
+    {
+        self.store.reset(m.store);
+        self.thms.truncate(m.thms);
     }
 
     /// Records a formula that is derivable from the facts under the context and the hypotheses given. The record's
@@ -185,6 +213,7 @@ impl<'b> Kernel<'b> {
 
     /// The numbers of HOL's constants here.
     pub fn constants(&self) -> Constants
+        ensures is { result ≡ self.now.constants }
         ensures are { AreConstants self.now.store result }
         ensures lawful { IsKernel self.now }
     {

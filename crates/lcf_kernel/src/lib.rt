@@ -9,11 +9,13 @@
 mod crosses;
 mod hyps;
 mod kernel;
+mod mark;
 mod premises;
 mod rules;
 mod thm;
 
 pub use crosses::may_cross;
 pub use kernel::{Kernel, Records};
+pub use mark::KernelMark;
 pub use rules::RuleFault;
 pub use thm::{Made, Thm, ThmId};
