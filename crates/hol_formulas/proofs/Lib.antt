@@ -4,3 +4,4 @@ pub mod GrowthLemmas
 pub mod ConstantLemmas
 pub mod OccursLemmas
 pub mod UnchangedLemmas
+pub mod FoundLemmas

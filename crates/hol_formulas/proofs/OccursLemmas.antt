@@ -8,8 +8,7 @@ use Rattle.hol_terms.specs.TermEq.{term_eq}
 use Rattle.hol_terms.specs.Formula.{In, NotFreeIn, NotFreeInAny, without}
 use Rattle.hol_terms.proofs.SetLemmas.{in_append_left, in_append_right, in_append_either, in_without, in_without_or}
 use Rattle.hol_terms.proofs.QuantifierRules.{free_in_none, free_in_none_but, free_in_each}
-use Rattle.hol_formulas.specs.Formulas.{trees, IsContext}
-use Rattle.hol_formulas.specs.Formulas.{IsOpen}
+use Rattle.hol_formulas.specs.Formulas.{trees}
 use Rattle.hol_formulas.proofs.ListLemmas.{In-from_Contains, Contains-from_In}
 use Rattle.hol_formulas.proofs.TreesLemmas.{in_trees, from_trees}
 
@@ -28,15 +27,6 @@ module _ (s : TermStore) (v : Term) (ts : List ℕ) where
   -- one of them speaks of it
   pub present_at : (k t : ℕ) → k < length ts → t ≡ get_or ts k t → In v (free_variables (term_tree s t)) → NotFreeInAny v (trees s ts) → ⊥
   present_at k t below is free none = free_in_each v (trees s ts) none (term_tree s t) (in_trees s t ts (In-from_Contains ts t (k, below, sym is))) free
-
--- no context speaks of an Open variable
-pub absent_open : (s : TermStore) (context : List ℕ) → IsContext s context → (v : Term) → IsOpen v → NotFreeInAny v (trees s context)
-absent_open s context is v open_is = free_in_none v (trees s context) none
-  where
-    none : (g : Term) → In g (trees s context) → NotFreeIn v g
-    none g h free =
-        let p = from_trees s g context h in
-        (is.no_open p.0 p.1).none open_is.name open_is.type (subst (λ w. In w (free_variables (term_tree s p.0))) open_is.is (subst (λ w. In v (free_variables w)) p.2 free))
 
 -- two lists
 pub absent_both : (v : Term) (G H : List Term) → NotFreeInAny v G → NotFreeInAny v H → NotFreeInAny v (G ++ H)
@@ -85,9 +75,9 @@ module _ (s : TermStore) (v u : Term) (ts : List ℕ) where
       below_more (λ k. (term_tree s (get_or ts k 0) ≡ u → ⊥) → NotFreeIn v (term_tree s (get_or ts k 0))) i before
       (subst (λ w. (term_tree s w ≡ u → ⊥) → NotFreeIn v (term_tree s w)) (sym same) absent)
 
--- no context speaks of an Open variable
-pub absent_open_but : (s : TermStore) (context : List ℕ) → IsContext s context → (v u : Term) → IsOpen v → NotFreeInAny v (without u (trees s context))
-absent_open_but s context is v u open_is = free_in_none v (without u (trees s context)) (λ g h. free_in_each v (trees s context) (absent_open s context is v open_is) g (in_without u g (trees s context) h))
+-- fewer formulas
+pub absent_but_one : (v u : Term) (G : List Term) → NotFreeInAny v G → NotFreeInAny v (without u G)
+absent_but_one v u G all = free_in_none v (without u G) (λ g h. free_in_each v G all g (in_without u g G h))
 
 -- a formula less of two lists
 pub without_append : (t : Term) (G H : List Term) → without t (G ++ H) ≡ without t G ++ without t H

@@ -20,12 +20,6 @@ pub record HasFormula (s : TermStore) (t : ℕ) : Type 0 where
 pub record HasFormulas (s : TermStore) (ts : List ℕ) : Type 0 where
   pub each : (t : ℕ) → In t ts → HasFormula s t
 
--- an Open variable
-pub record IsOpen (t : Term) : Type 0 where
-  pub name : List ℕ
-  pub type : Ty
-  pub is : t ≡ FreeTm Open name type
-
 -- the term has no Open variable
 pub record HasNoOpen (t : Term) : Type 0 where
   pub none : (n : List ℕ) (ty : Ty) → In (FreeTm Open n ty) (free_variables t) → ⊥

@@ -10,3 +10,4 @@ pub mod equation;
 pub mod formula;
 pub mod occurs;
 pub mod unchanged;
+pub mod variables;

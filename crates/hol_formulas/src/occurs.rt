@@ -1,12 +1,11 @@
 //! Whether terms speak of a variable.
-ghost use Rattle.std.specs.Prelude.{◌≡◌, true, false, IsTrue, IfOk};
+ghost use Rattle.std.specs.Prelude.{◌≡◌, true, false, IfOk};
 ghost use Rattle.hol_terms.specs.TermStore.{HasTerm, TermsApart, term_tree};
 ghost use Rattle.hol_terms.specs.Formula.{In, NotFreeIn, NotFreeInAny, without};
 ghost use Rattle.hol_terms.specs.Substitution.{free_variables};
 ghost use Rattle.hol_formulas.specs.Formulas.{HasFormulas, trees};
-ghost use Rattle.hol_formulas.specs.Formulas.{IsOpen};
 
-use hol_terms::{FreeKind, Node, TermId, Terms};
+use hol_terms::{TermId, Terms};
 use std::alloc::AllocError;
 
 /// Whether a free variable occurs in one of the formulas. It takes one step for each distinct part of each.
@@ -69,19 +68,4 @@ pub fn occurs_but<S: Terms>(
         }
     }
     Ok(false)
-}
-
-/// Whether a term is an Open variable.
-pub fn is_open<S: Terms>(store: &S, t: TermId) -> bool
-    requires { HasTerm (S.store store.now) t }
-    ensures { IsTrue result → IsOpen (term_tree (S.store store.now) t) }
-{
-    match store.node(t) {
-        Node::Free(kind, _, _) => kind == FreeKind::Open,
-        Node::Bound(_, _) => false,
-        Node::Const(_, _) => false,
-        Node::Num(_) => false,
-        Node::App(_, _) => false,
-        Node::Lam(_, _) => false,
-    }
 }

@@ -1,12 +1,19 @@
 -- What the tests ask of a small kernel.
-use Rattle.std.proofs.Common.{◌≡◌, ◌∷◌, ◌++◌, [], refl, ap, ℕ, inl, subst, sym, ⊎_elim}
-use Rattle.hol_types.specs.Ty.{BoolTy}
-use Rattle.hol_terms.specs.Term.{ty_of}
-use Rattle.hol_terms.specs.TermStore.{TermStore, term_tree}
+use Rattle.std.proofs.Common.{◌≡◌, ◌<◌, ◌∷◌, ◌++◌, [], refl, ap, ℕ, List, inl, length, get_or, subst, sym, ⊎_elim}
+use Rattle.hol_types.specs.Ty.{Ty, BoolTy}
+use Rattle.hol_types.specs.TypeStore.{HasType}
+use Rattle.hol_terms.specs.Formula.{In}
+use Rattle.hol_formulas.proofs.ListLemmas.{In-from_Contains}
+use Rattle.kernel_tests.specs.Tables.{AreTypes, AreTerms, AreThms}
+use Rattle.hol_types.specs.TypeSubst.{HasSubst}
+use Rattle.hol_terms.specs.Term.{FreeTm, ty_of}
+use Rattle.hol_terms.specs.declared.node.FreeKind.TheVariants.{Open, Symbol}
+use Rattle.hol_terms.specs.TermStore.{TermStore, HasTerm, Keeps, term_tree}
+use Rattle.hol_terms.proofs.KeepsLemmas.{subst_kept}
 use Rattle.hol_terms.specs.Substitution.{IsClosed}
 use Rattle.hol_terms.proofs.FormulaLemmas.{false_is_formula}
 use Rattle.hol_terms.specs.Derivable.{Derivable}
-use Rattle.hol_terms.proofs.SetLemmas.{in_append_right}
+use Rattle.hol_terms.proofs.SetLemmas.{in_append_right, in_append_either}
 use Rattle.hol_terms.proofs.DerivableLemmas.{assume_in}
 use Rattle.lcf_kernel.proofs.HypLemmas.{all_hyps_formulas}
 use Rattle.hol_formulas.specs.Constants.{AreConstants}
@@ -49,3 +56,58 @@ falsity_context s c are = record {
 
 pub has_kept : (old new : KernelState) → KeepsAll old new → (t : ℕ) → HasThm old t → HasThm new t
 has_kept old new keeps t h = keeps.records.has t h
+
+pub term_kept : (old new : KernelState) → KeepsAll old new → (t : ℕ) → HasTerm old.store t → HasTerm new.store t
+term_kept old new keeps t h = keeps.records.store.terms t h
+
+pub subst_there : (old new : KernelState) → KeepsAll old new → (ps : List (ℕ × ℕ)) → HasSubst old.store.types ps → HasSubst new.store.types ps
+subst_there old new keeps ps h = subst_kept keeps.records.store ps h
+
+-- a constant of the problem of type Bool may be given
+pub symbol_context : (s : TermStore) (t : ℕ) (n : List ℕ) → HasTerm s t → term_tree s t ≡ FreeTm Symbol n BoolTy → IsContext s (t ∷ [])
+symbol_context s t n there is = record {
+  formulas = one_formula s t (record { there = there; formula = rw is (record { typed = tt; closed = tt; bool = refl }) });
+  no_open = λ u h. ⊎_elim (λ (e : u ≡ t). subst (λ v. HasNoOpen (term_tree s v)) (sym e) (rw is (record { none = none }))) (λ i. absurd i) h;
+}
+  where
+    none : (m : List ℕ) (ty : Ty) → In (FreeTm Open m ty) (FreeTm Symbol n BoolTy ∷ []) → ⊥
+    none m ty h = ⊎_elim (λ (e : FreeTm Open m ty ≡ FreeTm Symbol n BoolTy). absurd (cc)) (λ i. absurd i) h
+
+-- ---- what scripts have made
+
+pub types_kept : (s u : TermStore) → Keeps s u → (ts : List ℕ) → AreTypes s ts → AreTypes u ts
+types_kept s u keeps ts are = record { each = λ t h. keeps.types t (are.each t h) }
+
+pub terms_kept : (s u : TermStore) → Keeps s u → (ts : List ℕ) → AreTerms s ts → AreTerms u ts
+terms_kept s u keeps ts are = record { each = λ t h. keeps.terms t (are.each t h) }
+
+pub thms_kept : (k l : KernelState) → KeepsAll k l → (ts : List ℕ) → AreThms k ts → AreThms l ts
+thms_kept k l keeps ts are = record { each = λ t h. keeps.records.has t (are.each t h) }
+
+pub types_push : (s : TermStore) (ts : List ℕ) (t : ℕ) → AreTypes s ts → HasType s.types t → AreTypes s (ts ++ t ∷ [])
+types_push s ts t are there = record { each = λ u h. ⊎_elim (λ (i : In u ts). are.each u i) (λ (i : In u (t ∷ [])). ⊎_elim (λ (e : u ≡ t). subst (λ v. HasType s.types v) (sym e) there) (λ j. absurd j) i) (in_append_either u ts (t ∷ []) h) }
+
+pub terms_push : (s : TermStore) (ts : List ℕ) (t : ℕ) → AreTerms s ts → HasTerm s t → AreTerms s (ts ++ t ∷ [])
+terms_push s ts t are there = record { each = λ u h. ⊎_elim (λ (i : In u ts). are.each u i) (λ (i : In u (t ∷ [])). ⊎_elim (λ (e : u ≡ t). subst (λ v. HasTerm s v) (sym e) there) (λ j. absurd j) i) (in_append_either u ts (t ∷ []) h) }
+
+pub thms_push : (k : KernelState) (ts : List ℕ) (t : ℕ) → AreThms k ts → HasThm k t → AreThms k (ts ++ t ∷ [])
+thms_push k ts t are there = record { each = λ u h. ⊎_elim (λ (i : In u ts). are.each u i) (λ (i : In u (t ∷ [])). ⊎_elim (λ (e : u ≡ t). subst (λ v. HasThm k v) (sym e) there) (λ j. absurd j) i) (in_append_either u ts (t ∷ []) h) }
+
+pub no_types : (s : TermStore) → AreTypes s []
+no_types s = record { each = λ t h. absurd h }
+
+pub no_terms : (s : TermStore) → AreTerms s []
+no_terms s = record { each = λ t h. absurd h }
+
+pub no_thms : (k : KernelState) → AreThms k []
+no_thms k = record { each = λ t h. absurd h }
+
+-- what was read stands in the list
+pub type_read : (s : TermStore) (ts : List ℕ) (i t : ℕ) → AreTypes s ts → i < length ts → t ≡ get_or ts i t → HasType s.types t
+type_read s ts i t are below is = are.each t (In-from_Contains ts t (i, below, sym is))
+
+pub term_read : (s : TermStore) (ts : List ℕ) (i t : ℕ) → AreTerms s ts → i < length ts → t ≡ get_or ts i t → HasTerm s t
+term_read s ts i t are below is = are.each t (In-from_Contains ts t (i, below, sym is))
+
+pub thm_read : (k : KernelState) (ts : List ℕ) (i t : ℕ) → AreThms k ts → i < length ts → t ≡ get_or ts i t → HasThm k t
+thm_read k ts i t are below is = are.each t (In-from_Contains ts t (i, below, sym is))

@@ -5,7 +5,13 @@
 #[cfg(test)]
 mod calls;
 #[cfg(test)]
+mod contexts;
+#[cfg(test)]
 mod equations;
+#[cfg(test)]
+mod instances;
+#[cfg(test)]
+mod marks;
 #[cfg(test)]
 mod propositions;
 #[cfg(test)]

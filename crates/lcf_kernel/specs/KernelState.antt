@@ -9,6 +9,7 @@ use Rattle.hol_terms.specs.Formula.{In, AllFormulas, SameMembers}
 use Rattle.hol_terms.specs.Derivable.{Derivable}
 use Rattle.lcf_kernel.specs.Hyps.{Rises, SameIds}
 use Rattle.hol_formulas.specs.Constants.{AreConstants}
+use Rattle.hol_formulas.specs.Found.{AreVariables}
 use Rattle.hol_formulas.specs.Formulas.{trees, HasFormula, HasFormulas, IsContext}
 use Rattle.hol_formulas.specs.declared.formula.Constants.{Constants}
 use Rattle.lcf_kernel.specs.declared.kernel.Records.{Records}
@@ -27,12 +28,14 @@ pub record KernelState : Type 0 where
   pub facts : List ℕ
   -- the numbers of the formulas that are hypotheses of each record
   pub context : List ℕ
+  -- the numbers of the context's free variables
+  pub variables : List ℕ
   -- the records, in the order in which they were made
   pub thms : List Thm
 
 -- what it holds beside the terms
 abbrev pub records_of : KernelState → Records
-records_of k = record { base = k.base; constants = k.constants; facts = k.facts; context = k.context; thms = k.thms }
+records_of k = record { base = k.base; constants = k.constants; facts = k.facts; context = k.context; variables = k.variables; thms = k.thms }
 
 -- ---- records
 
@@ -116,12 +119,14 @@ pub record IsKernel (k : KernelState) : Type 0 where
   pub context : IsContext k.store k.context
   pub thms : (t : ℕ) (r : Thm) → slice_get k.thms t ≡ Some r → IsThm k.store k.facts k.context r
 
--- a kernel with the numbers of its constants, and its context in rising order
+-- a kernel with the numbers of its constants, its context in rising order, and the context's free variables too
 pub record IsInside (k : KernelState) (numbers : Constants) (ordered : List ℕ) : Type 0 where
   pub kernel : IsKernel k
   pub constants : AreConstants k.store numbers
   pub rises : Rises ordered
   pub same : SameIds ordered k.context
+  pub variables : AreVariables k.store k.variables (context_of k)
+  pub variables_rise : Rises k.variables
 
 -- ---- how a kernel goes on
 
@@ -132,6 +137,7 @@ pub record KeepsRecords (old new : KernelState) : Type 0 where
   pub constants : new.constants ≡ old.constants
   pub facts : new.facts ≡ old.facts
   pub context : new.context ≡ old.context
+  pub variables : new.variables ≡ old.variables
   pub fact_trees : facts_of new ≡ facts_of old
   pub context_trees : context_of new ≡ context_of old
   -- each record is still there

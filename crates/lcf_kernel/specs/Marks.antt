@@ -2,6 +2,8 @@
 use Rattle.std.specs.Prelude.{◌≤◌, length, take}
 use Rattle.hol_terms.specs.TermStore as terms
 use Rattle.hol_formulas.specs.Constants.{AreConstants}
+use Rattle.hol_formulas.specs.Formulas.{trees}
+use Rattle.hol_formulas.specs.Found.{AreVariables}
 use Rattle.lcf_kernel.specs.KernelState.{KernelState, IsKernel}
 use Rattle.lcf_kernel.specs.declared.mark.KernelMark.{KernelMark}
 
@@ -18,4 +20,5 @@ pub record MayReset (m : KernelMark) (k : KernelState) : Type 0 where
   pub store : terms.MayReset m.store (record { store = k.store; base = k.base })
   pub thms : m.thms ≤ length k.thms
   pub constants : AreConstants (terms.cut m.store k.store) k.constants
+  pub variables : AreVariables (terms.cut m.store k.store) k.variables (trees (terms.cut m.store k.store) k.context)
   pub kernel : IsKernel (cut m k)

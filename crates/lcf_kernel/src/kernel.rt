@@ -7,6 +7,7 @@ ghost use Rattle.hol_terms.specs.TermStore.{HasTerm, Keeps, TermsApart, term_tre
 ghost use Rattle.hol_terms.specs.Formula.{IsFormula};
 ghost use Rattle.hol_terms.specs.Derivable.{Derivable};
 ghost use Rattle.hol_formulas.specs.Constants.{AreConstants};
+ghost use Rattle.hol_formulas.specs.Found.{AreVariables};
 ghost use Rattle.hol_formulas.specs.Formulas.{trees, HasFormula, HasFormulas, IsContext};
 ghost use Rattle.lcf_kernel.specs.KernelState.{KernelState, HasThm, thm_at, concl_of, hyps_of, bare_of, facts_of, context_of, all_hyps_of, adopted_of, opened_of, with_thm, AreHyps, IsThm, IsKernel, KeepsRecords, KeepsAll, IsOutside, GivesHyps};
 ghost use Rattle.lcf_kernel.specs.Hyps.{Rises, SameIds};
@@ -16,6 +17,7 @@ use crate::hyps::{copied, in_order, outside};
 use crate::mark::KernelMark;
 use crate::thm::{Made, Thm, ThmId};
 use hol_formulas::formula::Constants;
+use hol_formulas::variables::variables_of;
 use hol_terms::{Frozen, Mark, Node, Store, TermFault, TermId, Terms};
 use hol_types::{List, NameId, Subst, TypeFault, TypeId, TypeInstances, TypeNode};
 use std::alloc::{AllocError, Global};
@@ -31,6 +33,8 @@ pub struct Kernel<'b> {
     context: List<TermId>,
     /// The context's ids in rising order, each once.
     ordered: List<TermId>,
+    /// The ids of the context's free variables in rising order, each once.
+    variables: List<TermId>,
     thms: Vec<Thm>,
     alloc: Global,
 }
@@ -46,6 +50,8 @@ pub struct Records {
     pub facts: List<TermId>,
     /// The formulas that are hypotheses of each record.
     pub context: List<TermId>,
+    /// The free variables of the context.
+    pub variables: List<TermId>,
     /// The records, in the order in which they were made.
     pub thms: List<Thm>,
 }
@@ -55,9 +61,9 @@ impl<'b> Model for Kernel<'b> {
 
     ghost Value = { KernelState };
 
-    ghost view = { λ k. record { store = k.store.store; base = k.store.base; constants = k.constants; facts = k.facts; context = k.context; thms = k.thms.items } };
+    ghost view = { λ k. record { store = k.store.store; base = k.store.base; constants = k.constants; facts = k.facts; context = k.context; variables = k.variables; thms = k.thms.items } };
 
-    ghost invariant = { λ k. IsInside (record { store = k.store.store; base = k.store.base; constants = k.constants; facts = k.facts; context = k.context; thms = k.thms.items }) k.constants k.ordered };
+    ghost invariant = { λ k. IsInside (record { store = k.store.store; base = k.store.base; constants = k.constants; facts = k.facts; context = k.context; variables = k.variables; thms = k.thms.items }) k.constants k.ordered };
 }
 
 impl<'b> Kernel<'b> {
@@ -77,6 +83,7 @@ impl<'b> Kernel<'b> {
         ensures thms { IfOk result (λ k. k.thms ≡ []) }
     {
         let mut store = Store::over(alloc, base);
+        let variables = variables_in_order(&store, context)?;
         let constants = Constants::new(&mut store)?;
         let ordered = in_order(alloc, context)?;
         let facts = copied(alloc, facts)?;
@@ -88,6 +95,7 @@ impl<'b> Kernel<'b> {
             facts,
             context,
             ordered,
+            variables,
             thms,
             alloc,
         })
@@ -249,6 +257,15 @@ impl<'b> Kernel<'b> {
         self.ordered.as_slice()
     }
 
+    /// The free variables of the context in rising order, each once.
+    pub(crate) fn variables(&self) -> &[TermId]
+        ensures rises { Rises result.now }
+        ensures are { AreVariables self.now.store result.now (context_of self.now) }
+        ensures lawful { IsKernel self.now }
+    {
+        self.variables.as_slice()
+    }
+
     /// Makes each record of a kernel.
     fn add(&mut self, thm: Thm) -> Result<ThmId, AllocError>
         requires { IsThm self.old.store self.old.facts self.old.context thm }
@@ -283,6 +300,17 @@ impl<'b> Kernel<'b> {
         })?;
         Ok(r)
     }
+}
+
+/// The free variables of formulas in rising order, each once.
+fn variables_in_order(store: &Store<'_>, context: &[TermId]) -> Result<List<TermId>, AllocError>
+    requires { HasFormulas store.now.store context.now }
+    ensures rises { IfOk result Rises }
+    ensures are { IfOk result (λ c. AreVariables store.now.store c (trees store.now.store context.now)) }
+{
+    let found = variables_of(store, context)?;
+    let c = in_order(store.allocator(), found.as_slice())?;
+    Ok(c)
 }
 
 impl<'b> Terms for Kernel<'b> {
