@@ -1,2 +1,1 @@
 pub mod SmallPlan
-pub mod TestLemmas

@@ -6,13 +6,9 @@
 #[cfg(test)]
 mod files;
 #[cfg(test)]
-mod kernel;
-#[cfg(test)]
 mod parts;
 #[cfg(test)]
 mod plans;
-#[cfg(test)]
-mod small_records;
 #[cfg(test)]
 mod small_terms;
 #[cfg(test)]

@@ -12,9 +12,10 @@ use Rattle.hol_terms.proofs.QuantifierRules.{ex_e_in}
 use Rattle.hol_terms.proofs.SetLemmas.{in_append_left, in_append_right, in_append_either, within_left, within_right, within_trans, within_context, within_from_same, same_sym, within_but_context, within_but_more, within_but_without}
 use Rattle.hol_terms.proofs.DerivedFormulas.{derived_is_formula}
 use Rattle.lcf_kernel.specs.declared.thm.Made.TheVariants.{Rule}
-use Rattle.lcf_kernel.specs.KernelState.{KernelState, trees, HasThm, concl_of, hyps_of, bare_of, facts_of, context_of, Follows, IsThm, IsKernel, IsOutside, GivesHyps}
+use Rattle.lcf_kernel.specs.KernelState.{KernelState, HasThm, concl_of, hyps_of, bare_of, facts_of, context_of, Follows, IsThm, IsKernel, IsOutside, GivesHyps}
+use Rattle.hol_formulas.specs.Formulas.{trees}
 use Rattle.lcf_kernel.specs.RuleForms.{IsArbitrary}
-use Rattle.lcf_kernel.proofs.HypLemmas.{all_formulas}
+use Rattle.hol_formulas.proofs.TreesLemmas.{all_formulas}
 use Rattle.lcf_kernel.proofs.KeepLemmas.{thm_is}
 use Rattle.lcf_kernel.proofs.RuleLemmas.{both_left, both_right}
 

@@ -8,46 +8,17 @@ use Rattle.hol_terms.specs.TermStore.{TermStore, HasTerm, TermsApart, term_tree}
 use Rattle.hol_terms.specs.Formula.{In, IsFormula, AllFormulas, SameMembers, without}
 use Rattle.hol_terms.proofs.SetLemmas.{in_append_left, in_append_right, in_append_either, in_map, in_map_from, in_without, in_without_or, without_differs, formulas_both, same_refl, same_trans}
 use Rattle.lcf_kernel.specs.Hyps.{Rises, SameIds, stands}
-use Rattle.lcf_kernel.specs.KernelState.{KernelState, trees, HasThm, thm_at, hyps_of, context_of, HasFormulas, AreHyps, IsKernel, IsOutside, GivesHyps}
+use Rattle.lcf_kernel.specs.KernelState.{KernelState, HasThm, thm_at, hyps_of, context_of, AreHyps, IsKernel, IsOutside, GivesHyps}
+use Rattle.hol_formulas.specs.Formulas.{trees, HasFormulas}
 use Rattle.lcf_kernel.proofs.IdLemmas.{In-filter, In-to_filter, stands-In, stands-from_In}
 use Rattle.lcf_kernel.proofs.KeepLemmas.{thm_is}
+use Rattle.hol_formulas.proofs.TreesLemmas.{in_trees, from_trees, all_formulas, trees_within, from_append, to_append}
 
--- the trees of numbers
 module _ (s : TermStore) where
-  pub in_trees : (t : ℕ) (ts : List ℕ) → In t ts → In (term_tree s t) (trees s ts)
-  in_trees t ts h = in_map (λ u. term_tree s u) t ts h
-
-  pub from_trees : (u : Term) (ts : List ℕ) → In u (trees s ts) → (t : ℕ) × In t ts × (u ≡ term_tree s t)
-  from_trees u ts h = in_map_from (λ t. term_tree s t) u ts h
-
-  pub all_formulas : (ts : List ℕ) → HasFormulas s ts → AllFormulas (trees s ts)
-  all_formulas ts all = record { each = each }
-    where
-      each : (u : Term) → In u (trees s ts) → IsFormula u
-      each u h = let p = from_trees u ts h in subst (λ v. IsFormula v) (sym p.2) (all.each p.0 p.1).formula
-
-  -- from numbers to trees, where each number of the one list is in the other
-  pub trees_within : (xs ys : List ℕ) → ((t : ℕ) → In t xs → In t ys) → (u : Term) → In u (trees s xs) → In u (trees s ys)
-  trees_within xs ys inside u h = let p = from_trees u xs h in subst (λ v. In v (trees s ys)) (sym p.2) (in_trees p.0 ys (inside p.0 p.1))
-
-  pub from_append : (xs ys : List ℕ) (u : Term) → In u (trees s (xs ++ ys)) → In u (trees s xs ++ trees s ys)
-  from_append xs ys u h = let p = from_trees u (xs ++ ys) h in by p.0 p.2 (in_append_either p.0 xs ys p.1)
-    where
-      by : (t : ℕ) → u ≡ term_tree s t → In t xs ⊎ In t ys → In u (trees s xs ++ trees s ys)
-      by t e (inl k) = in_append_left u (trees s xs) (trees s ys) (subst (λ v. In v (trees s xs)) (sym e) (in_trees t xs k))
-      by t e (inr k) = in_append_right u (trees s xs) (trees s ys) (subst (λ v. In v (trees s ys)) (sym e) (in_trees t ys k))
-
-  pub to_append : (xs ys : List ℕ) (u : Term) → In u (trees s xs ++ trees s ys) → In u (trees s (xs ++ ys))
-  to_append xs ys u h = by (in_append_either u (trees s xs) (trees s ys) h)
-    where
-      by : In u (trees s xs) ⊎ In u (trees s ys) → In u (trees s (xs ++ ys))
-      by (inl k) = trees_within xs (xs ++ ys) (λ t l. in_append_left t xs ys l) u k
-      by (inr k) = trees_within ys (xs ++ ys) (λ t l. in_append_right t xs ys l) u k
-
   pub same_union : (xs ys zs : List ℕ) → SameIds zs (xs ++ ys) → SameMembers (trees s zs) (trees s xs ++ trees s ys)
   same_union xs ys zs same = record {
-    to = λ u h. from_append xs ys u (trees_within zs (xs ++ ys) same.to u h);
-    from = λ u h. trees_within (xs ++ ys) zs same.from u (to_append xs ys u h);
+    to = λ u h. from_append s xs ys u (trees_within s zs (xs ++ ys) same.to u h);
+    from = λ u h. trees_within s (xs ++ ys) zs same.from u (to_append s xs ys u h);
   }
 
   -- one number less is one tree less
@@ -64,19 +35,19 @@ module _ (s : TermStore) where
 
     to_without : (u : Term) → In u (trees s (filter differs xs)) → In u (without (term_tree s t) (trees s xs))
     to_without u h =
-        let p = from_trees u (filter differs xs) h in
+        let p = from_trees s u (filter differs xs) h in
         let q = In-filter differs xs p.0 p.1 in
         ⊎_elim (λ (e : u ≡ term_tree s t). absurd (kept_differs p.0 q.0 q.1 (sym p.2 ∙ e))) (λ (k : In u (without (term_tree s t) (trees s xs))). k)
-        (in_without_or (term_tree s t) u (trees s xs) (subst (λ v. In v (trees s xs)) (sym p.2) (in_trees p.0 xs q.0)))
+        (in_without_or (term_tree s t) u (trees s xs) (subst (λ v. In v (trees s xs)) (sym p.2) (in_trees s p.0 xs q.0)))
 
     from_without : (u : Term) → In u (without (term_tree s t) (trees s xs)) → In u (trees s (filter differs xs))
     from_without u h =
-        let p = from_trees u xs (in_without (term_tree s t) u (trees s xs) h) in
+        let p = from_trees s u xs (in_without (term_tree s t) u (trees s xs) h) in
         by p.0 p.1 p.2 (eqb p.0 t) refl
       where
         by : (v : ℕ) → In v xs → u ≡ term_tree s v → (b : Truth) → eqb v t ≡ b → In u (trees s (filter differs xs))
         by v i e true k = absurd (without_differs (term_tree s t) u (trees s xs) h (e ∙ ap (λ w. term_tree s w) (eqb_sound v t k)))
-        by v i e false k = subst (λ w. In w (trees s (filter differs xs))) (sym e) (in_trees v (filter differs xs) (In-to_filter differs xs v i (ap not k)))
+        by v i e false k = subst (λ w. In w (trees s (filter differs xs))) (sym e) (in_trees s v (filter differs xs) (In-to_filter differs xs v i (ap not k)))
 
     pub same_without : SameMembers (trees s (filter differs xs)) (without (term_tree s t) (trees s xs))
     same_without = record { to = to_without; from = from_without }

@@ -17,16 +17,7 @@ use Rattle.std.specs.Result.{MatchResult, is_ok}
 use Rattle.hol_types.proofs.TypeLemmas.{eqb_sound, eqb_complete}
 use Rattle.hol_terms.specs.Formula.{In}
 use Rattle.lcf_kernel.specs.Hyps.{Rises, SameIds, stands}
-
-pub In-from_Contains : (xs : List ℕ) (x : ℕ) → Contains xs x → In x xs
-In-from_Contains [] x h = absurd (omega (arith, h.1))
-In-from_Contains (y ∷ xs) x (zero, below, is) = inl (sym is)
-In-from_Contains (y ∷ xs) x (suc k, below, is) = inr (In-from_Contains xs x (k, omega arith, is))
-
-pub Contains-from_In : (xs : List ℕ) (x : ℕ) → In x xs → Contains xs x
-Contains-from_In [] x h = absurd h
-Contains-from_In (y ∷ xs) x (inl e) = (zero, omega arith, sym e)
-Contains-from_In (y ∷ xs) x (inr h) = let p = Contains-from_In xs x h in (suc p.0, omega (arith, p.1), p.2)
+use Rattle.hol_formulas.proofs.ListLemmas.{In-from_Contains, Contains-from_In}
 
 -- what a test lets through
 module _ (p : ℕ → Truth) where

@@ -8,83 +8,52 @@ use Rattle.std.proofs.Math.Seq.{get_or-append_seam}
 use Rattle.hol_types.proofs.Places.{slice_get-push}
 use Rattle.hol_terms.specs.Term.{Term}
 use Rattle.hol_terms.specs.TermStore.{TermStore, term_tree, Keeps}
+use Rattle.hol_terms.specs.declared.tables.Mark.{Mark}
 use Rattle.hol_types.specs.Ty.{Ty}
-use Rattle.lcf_kernel.specs.Constants.{IsAt, IsType, IsName, AreNames, AreConstants}
+use Rattle.hol_formulas.specs.Constants.{IsAt, IsType, IsName, AreNames, AreConstants}
 use Rattle.lcf_kernel.specs.Hyps.{Rises, SameIds}
-use Rattle.lcf_kernel.specs.declared.formula.Constants.{Constants}
-use Rattle.lcf_kernel.specs.declared.formula.Names.{Names}
+use Rattle.hol_formulas.specs.declared.formula.Constants.{Constants}
+use Rattle.hol_formulas.specs.declared.formula.Names.{Names}
 use Rattle.lcf_kernel.specs.declared.kernel.Records.{Records}
 use Rattle.lcf_kernel.specs.declared.thm.Thm.{Thm}
 use Rattle.hol_terms.proofs.KeepsLemmas.{keeps_refl, keeps_trans}
 use Rattle.lcf_kernel.specs.declared.thm.Made.TheVariants.{Rule}
-use Rattle.lcf_kernel.specs.KernelState.{KernelState, records_of, trees, HasThm, thm_at, is_adopted, is_opened, adopted_of, opened_of, with_thm, HasFormula, HasFormulas, IsContext, AreHyps, IsThm, IsKernel, IsInside, KeepsRecords, KeepsAll}
+use Rattle.lcf_kernel.specs.KernelState.{KernelState, records_of, HasThm, thm_at, is_adopted, is_opened, adopted_of, opened_of, with_thm, AreHyps, IsThm, IsKernel, IsInside, KeepsRecords, KeepsAll}
+use Rattle.hol_formulas.specs.Found.{AreVariables}
+use Rattle.hol_formulas.proofs.FoundLemmas.{variables_keep}
+use Rattle.hol_formulas.specs.Formulas.{trees, HasFormula, HasFormulas, IsContext}
+use Rattle.hol_formulas.proofs.GrowthLemmas.{trees_keep, constants_keep, formula_keeps, formulas_keep, context_keeps}
 
 -- ---- a store that goes on
 
 module _ (s u : TermStore) (keeps : Keeps s u) where
-  pub trees_keep : (ts : List ℕ) → HasFormulas s ts → trees u ts ≡ trees s ts
-  trees_keep [] all = refl
-  trees_keep (t ∷ ts) all =
-      let e = keeps.trees t (all.each t (inl refl)).there in
-      let r = trees_keep ts (record { each = λ v h. all.each v (inr h) }) in
-      cc
-
-  pub at_keeps : (t : ℕ) (tree : Term) → IsAt s t tree → IsAt u t tree
-  at_keeps t tree h = record { there = keeps.terms t h.there; is = keeps.trees t h.there ∙ h.is }
-
-  pub type_keeps : (t : ℕ) (tree : Ty) → IsType s t tree → IsType u t tree
-  type_keeps t tree h = record { there = keeps.types t h.there; is = keeps.type_trees t h.there ∙ h.is }
-
-  pub name_keeps : (n : ℕ) (text : List ℕ) → IsName s n text → IsName u n text
-  name_keeps n text h = record { there = keeps.names n h.there; is = keeps.texts n h.there ∙ h.is }
-
-  pub names_keep : (n : Names) → AreNames s n → AreNames u n
-  names_keep n h = record { eq = name_keeps _ _ h.eq; ite = name_keeps _ _ h.ite; all = name_keeps _ _ h.all; ex = name_keeps _ _ h.ex; choice = name_keeps _ _ h.choice }
-
-  pub constants_keep : (c : Constants) → AreConstants s c → AreConstants u c
-  constants_keep c h = record {
-    imp = at_keeps _ _ h.imp;
-    not = at_keeps _ _ h.not;
-    falsity = at_keeps _ _ h.falsity;
-    truth = at_keeps _ _ h.truth;
-    and = at_keeps _ _ h.and;
-    or = at_keeps _ _ h.or;
-    bool = type_keeps _ _ h.bool;
-    names = names_keep c.names h.names;
-  }
-
-  pub formula_keeps : (t : ℕ) → HasFormula s t → HasFormula u t
-  formula_keeps t h = record { there = keeps.terms t h.there; formula = rw (keeps.trees t h.there) h.formula }
-
-  pub formulas_keep : (ts : List ℕ) → HasFormulas s ts → HasFormulas u ts
-  formulas_keep ts all = record { each = λ t h. formula_keeps t (all.each t h) }
-
-  pub context_keeps : (ts : List ℕ) → IsContext s ts → IsContext u ts
-  context_keeps ts h = record {
-    formulas = formulas_keep ts h.formulas;
-    no_open = λ t i. rw (keeps.trees t (h.formulas.each t i).there) (h.no_open t i);
-  }
-
   pub hyps_keep : (context hyps : List ℕ) → AreHyps s context hyps → AreHyps u context hyps
-  hyps_keep context hyps h = record { formulas = formulas_keep hyps h.formulas; rises = h.rises; outside = h.outside }
+  hyps_keep context hyps h = record { formulas = formulas_keep s u keeps hyps h.formulas; rises = h.rises; outside = h.outside }
 
   pub thm_keeps : (facts context : List ℕ) (r : Thm) → HasFormulas s facts → HasFormulas s context → IsThm s facts context r → IsThm u facts context r
   thm_keeps facts context r fs cs thm = record {
-    concl = formula_keeps r.concl thm.concl;
+    concl = formula_keeps s u keeps r.concl thm.concl;
     hyps = hyps_keep context r.hyps thm.hyps;
-    follows = rw (trees_keep facts fs, trees_keep context cs, trees_keep r.hyps thm.hyps.formulas, keeps.trees r.concl thm.concl.there) thm.follows;
+    follows = rw (trees_keep s u keeps facts fs, trees_keep s u keeps context cs, trees_keep s u keeps r.hyps thm.hyps.formulas, keeps.trees r.concl thm.concl.there) thm.follows;
   }
 
-module _ (k : KernelState) (u : TermStore) (keeps : Keeps k.store u) where
-  pub kernel_keeps : IsKernel k → IsKernel (record k { store = u })
+module _ (k : KernelState) (u : TermStore) (base : Mark) (keeps : Keeps k.store u) where
+  pub kernel_keeps : IsKernel k → IsKernel (record k { store = u; base = base })
   kernel_keeps is = record {
     facts = formulas_keep k.store u keeps k.facts is.facts;
     context = context_keeps k.store u keeps k.context is.context;
     thms = λ t r h. thm_keeps k.store u keeps k.facts k.context r is.facts is.context.formulas (is.thms t r h);
   }
 
-  pub inside_keeps : (c : Constants) (ordered : List ℕ) → IsInside k c ordered → IsInside (record k { store = u }) c ordered
-  inside_keeps c ordered is = record { kernel = kernel_keeps is.kernel; constants = constants_keep k.store u keeps c is.constants; rises = is.rises; same = is.same }
+  pub inside_keeps : (c : Constants) (ordered : List ℕ) → IsInside k c ordered → IsInside (record k { store = u; base = base }) c ordered
+  inside_keeps c ordered is = record {
+    kernel = kernel_keeps is.kernel;
+    constants = constants_keep k.store u keeps c is.constants;
+    rises = is.rises;
+    same = is.same;
+    variables = variables_keep k.store u keeps k.variables k.context is.kernel.context.formulas is.variables;
+    variables_rise = is.variables_rise;
+  }
 
 -- ---- records
 
@@ -93,12 +62,15 @@ pub thm_is : (k : KernelState) → IsKernel k → (t : ℕ) → HasThm k t → I
 thm_is k is t h = is.thms t (thm_at k t) (slice_get-get_or k.thms t _ h)
 
 -- a kernel whose terms alone have changed
-pub keeps_all_terms : (old new : KernelState) → IsKernel old → Keeps old.store new.store → new.facts ≡ old.facts → new.context ≡ old.context → new.thms ≡ old.thms → KeepsAll old new
-keeps_all_terms old new is keeps same_facts same_context same_thms = record {
+pub keeps_all_terms : (old new : KernelState) → IsKernel old → Keeps old.store new.store → new.base ≡ old.base → new.constants ≡ old.constants → new.facts ≡ old.facts → new.context ≡ old.context → new.variables ≡ old.variables → new.thms ≡ old.thms → KeepsAll old new
+keeps_all_terms old new is keeps same_base same_constants same_facts same_context same_variables same_thms = record {
   records = record {
     store = keeps;
+    base = same_base;
+    constants = same_constants;
     facts = same_facts;
     context = same_context;
+    variables = same_variables;
     fact_trees = ap (λ ts. trees new.store ts) same_facts ∙ trees_keep old.store new.store keeps old.facts is.facts;
     context_trees = ap (λ ts. trees new.store ts) same_context ∙ trees_keep old.store new.store keeps old.context is.context.formulas;
     has = λ t h. subst (λ ts. t < length ts) (sym same_thms) h;
@@ -115,7 +87,7 @@ keeps_all_terms old new is keeps same_facts same_context same_thms = record {
 
 pub keeps_all_refl : (k : KernelState) → Keeps k.store k.store → KeepsAll k k
 keeps_all_refl k keeps = record {
-  records = record { store = keeps; facts = refl; context = refl; fact_trees = refl; context_trees = refl; has = λ t h. h; thms = λ t h. refl; concls = λ t h. refl; hyps = λ t h. refl };
+  records = record { store = keeps; base = refl; constants = refl; facts = refl; context = refl; variables = refl; fact_trees = refl; context_trees = refl; has = λ t h. h; thms = λ t h. refl; concls = λ t h. refl; hyps = λ t h. refl };
   adopted = refl;
   opened = refl;
 }
@@ -123,8 +95,11 @@ keeps_all_refl k keeps = record {
 pub keeps_records_trans : (a b c : KernelState) → Keeps a.store c.store → KeepsRecords a b → KeepsRecords b c → KeepsRecords a c
 keeps_records_trans a b c keeps f g = record {
   store = keeps;
+  base = g.base ∙ f.base;
+  constants = g.constants ∙ f.constants;
   facts = g.facts ∙ f.facts;
   context = g.context ∙ f.context;
+  variables = g.variables ∙ f.variables;
   fact_trees = g.fact_trees ∙ f.fact_trees;
   context_trees = g.context_trees ∙ f.context_trees;
   has = λ t h. g.has t (f.has t h);
@@ -144,7 +119,7 @@ module _ (k : KernelState) (r : Thm) where
   kernel_with is thm = record { facts = is.facts; context = is.context; thms = λ t q h. each is thm t q (slice_get-push k.thms r t q h) }
 
   pub inside_with : (c : Constants) (ordered : List ℕ) → IsInside k c ordered → IsThm k.store k.facts k.context r → IsInside (with_thm k r) c ordered
-  inside_with c ordered is thm = record { kernel = kernel_with is.kernel thm; constants = is.constants; rises = is.rises; same = is.same }
+  inside_with c ordered is thm = record { kernel = kernel_with is.kernel thm; constants = is.constants; rises = is.rises; same = is.same; variables = is.variables; variables_rise = is.variables_rise }
 
   kept_at : (t : ℕ) → HasThm k t → thm_at (with_thm k r) t ≡ thm_at k t
   kept_at t h = get_or-append k.thms (r ∷ []) _ t h
@@ -158,8 +133,11 @@ module _ (k : KernelState) (r : Thm) where
   pub keeps_records_with : Keeps k.store k.store → KeepsRecords k (with_thm k r)
   keeps_records_with keeps = record {
     store = keeps;
+    base = refl;
+    constants = refl;
     facts = refl;
     context = refl;
+    variables = refl;
     fact_trees = refl;
     context_trees = refl;
     has = λ t h. omega (arith, h, length-append k.thms (r ∷ []));
@@ -176,8 +154,9 @@ module _ (k : KernelState) (r : Thm) where
 
 -- ---- the first kernel
 
-pub inside_new : (base u : TermStore) → Keeps base u → (facts context ordered : List ℕ) (c : Constants) → HasFormulas base facts → IsContext base context → AreConstants u c → Rises ordered → SameIds ordered context → IsInside (record { store = u; facts = facts; context = context; thms = [] }) c ordered
-inside_new base u keeps facts context ordered c fs cs are rises same = record {
+pub inside_new : (base u : TermStore) → Keeps base u → (m : Mark) (facts context ordered vars : List ℕ) (c : Constants) → HasFormulas base facts → IsContext base context → AreConstants u c → Rises ordered → SameIds ordered context → Rises vars → AreVariables base vars (trees base context)
+    → IsInside (record { store = u; base = m; constants = c; facts = facts; context = context; variables = vars; thms = [] }) c ordered
+inside_new base u keeps m facts context ordered vars c fs cs are rises same vars_rise vars_are = record {
   kernel = record {
     facts = formulas_keep base u keeps facts fs;
     context = context_keeps base u keeps context cs;
@@ -186,11 +165,13 @@ inside_new base u keeps facts context ordered c fs cs are rises same = record {
   constants = are;
   rises = rises;
   same = same;
+  variables = variables_keep base u keeps vars context cs.formulas vars_are;
+  variables_rise = vars_rise;
 }
 
 -- a kernel whose terms alone have changed, as the calls of the trait say it
 pub keeps_all_rest : (old new : KernelState) → IsKernel old → Keeps old.store new.store → records_of new ≡ records_of old → KeepsAll old new
-keeps_all_rest old new is keeps same = keeps_all_terms old new is keeps (ap (λ (r : Records). r.facts) same) (ap (λ (r : Records). r.context) same) (ap (λ (r : Records). r.thms) same)
+keeps_all_rest old new is keeps same = keeps_all_terms old new is keeps (ap (λ (r : Records). r.base) same) (ap (λ (r : Records). r.constants) same) (ap (λ (r : Records). r.facts) same) (ap (λ (r : Records). r.context) same) (ap (λ (r : Records). r.variables) same) (ap (λ (r : Records). r.thms) same)
 
 pub keeps_all_trans : {a b c : KernelState} → KeepsAll a b → KeepsAll b c → KeepsAll a c
 keeps_all_trans {a} {b} {c} f g = record {

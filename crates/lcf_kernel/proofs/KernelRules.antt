@@ -8,13 +8,14 @@ use Rattle.hol_types.specs.TypeSubst.{TypeSubst}
 use Rattle.hol_terms.specs.Substitution.{subst_types}
 use Rattle.hol_terms.proofs.FormulaLemmas.{false_is_formula}
 use Rattle.hol_terms.proofs.SubstitutionLemmas.{instance_is_formula}
-use Rattle.lcf_kernel.specs.Constants.{AreConstants}
-use Rattle.lcf_kernel.specs.declared.formula.Constants.{Constants}
+use Rattle.hol_formulas.specs.Constants.{AreConstants}
+use Rattle.hol_formulas.specs.declared.formula.Constants.{Constants}
 use Rattle.lcf_kernel.specs.declared.thm.Made.TheVariants.{Rule}
-use Rattle.lcf_kernel.specs.KernelState.{KernelState, trees, HasThm, concl_of, hyps_of, bare_of, facts_of, fact_of, context_of, HasFormula, HasFormulas, Follows, IsThm, IsKernel, IsOutside, GivesHyps}
+use Rattle.lcf_kernel.specs.KernelState.{KernelState, HasThm, concl_of, hyps_of, bare_of, facts_of, fact_of, context_of, Follows, IsThm, IsKernel, IsOutside, GivesHyps}
+use Rattle.hol_formulas.specs.Formulas.{trees, HasFormula, HasFormulas}
 use Rattle.std.proofs.lemmas.Grind.{get_or_default_zero}
-use Rattle.lcf_kernel.proofs.IdLemmas.{In-from_Contains}
-use Rattle.lcf_kernel.proofs.HypLemmas.{in_trees}
+use Rattle.hol_formulas.proofs.ListLemmas.{In-from_Contains}
+use Rattle.hol_formulas.proofs.TreesLemmas.{in_trees}
 use Rattle.lcf_kernel.proofs.KeepLemmas.{thm_is}
 use Rattle.lcf_kernel.proofs.RuleLemmas.{right_formula, follows_assume, follows_fact, follows_imp_i, follows_imp_e, follows_not_e, follows_false_e, follows_classical}
 

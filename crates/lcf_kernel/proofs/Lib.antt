@@ -1,11 +1,9 @@
 pub mod IdLemmas
 pub mod MergeLemmas
 pub mod KeepLemmas
-pub mod ConstantLemmas
 pub mod HypLemmas
 pub mod RuleLemmas
 pub mod KernelRules
 pub mod FollowLemmas
-pub mod OccursLemmas
 pub mod ExtLemmas
-pub mod UnchangedLemmas
+pub mod MarkLemmas

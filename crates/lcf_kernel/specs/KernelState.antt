@@ -1,16 +1,17 @@
 -- What a kernel holds, what is true of it, and how it goes on.
-use Rattle.std.specs.Prelude.{◌≡◌, ℕ, ◌<◌, ◌⊎◌, ◌++◌, List, [], ◌∷◌, length, map, filter, slice_get, slice_index, slice_index_or, Some, Bool, true, false, IsTrue}
-use Rattle.hol_types.specs.Ty.{Ty, BoolTy}
-use Rattle.hol_terms.specs.Term.{Term, FreeTm, ty_of}
+use Rattle.std.specs.Prelude.{◌≡◌, ℕ, ◌<◌, ◌⊎◌, ◌++◌, List, [], ◌∷◌, length, filter, slice_get, slice_index, slice_index_or, Some, Bool, true, false, IsTrue}
+use Rattle.hol_types.specs.Ty.{BoolTy}
+use Rattle.hol_terms.specs.Term.{Term, ty_of}
 use Rattle.hol_terms.specs.Constants.{false_tm, disjunction}
-use Rattle.hol_terms.specs.declared.node.FreeKind.TheVariants.{Open}
-use Rattle.hol_terms.specs.Substitution.{free_variables}
-use Rattle.hol_terms.specs.TermStore.{TermStore, HasTerm, term_tree, Keeps}
-use Rattle.hol_terms.specs.Formula.{In, IsFormula, AllFormulas, SameMembers}
+use Rattle.hol_terms.specs.declared.tables.Mark.{Mark}
+use Rattle.hol_terms.specs.TermStore.{TermStore, term_tree, Keeps}
+use Rattle.hol_terms.specs.Formula.{In, AllFormulas, SameMembers}
 use Rattle.hol_terms.specs.Derivable.{Derivable}
 use Rattle.lcf_kernel.specs.Hyps.{Rises, SameIds}
-use Rattle.lcf_kernel.specs.Constants.{AreConstants}
-use Rattle.lcf_kernel.specs.declared.formula.Constants.{Constants}
+use Rattle.hol_formulas.specs.Constants.{AreConstants}
+use Rattle.hol_formulas.specs.Found.{AreVariables}
+use Rattle.hol_formulas.specs.Formulas.{trees, HasFormula, HasFormulas, IsContext}
+use Rattle.hol_formulas.specs.declared.formula.Constants.{Constants}
 use Rattle.lcf_kernel.specs.declared.kernel.Records.{Records}
 use Rattle.lcf_kernel.specs.declared.thm.Made.{Made}
 use Rattle.lcf_kernel.specs.declared.thm.Made.TheVariants.{Rule, Adopted, Opened}
@@ -19,20 +20,22 @@ use Rattle.lcf_kernel.specs.declared.thm.Thm.{Thm}
 pub record KernelState : Type 0 where
   -- the names, types and terms
   pub store : TermStore
+  -- how much of them is the base's
+  pub base : Mark
+  -- the numbers of HOL's constants
+  pub constants : Constants
   -- the numbers of the facts
   pub facts : List ℕ
   -- the numbers of the formulas that are hypotheses of each record
   pub context : List ℕ
+  -- the numbers of the context's free variables
+  pub variables : List ℕ
   -- the records, in the order in which they were made
   pub thms : List Thm
 
--- the trees of numbers
-abbrev pub trees : TermStore → List ℕ → List Term
-trees s ts = map (λ t. term_tree s t) ts
-
 -- what it holds beside the terms
 abbrev pub records_of : KernelState → Records
-records_of k = record { facts = k.facts; context = k.context; thms = k.thms }
+records_of k = record { base = k.base; constants = k.constants; facts = k.facts; context = k.context; variables = k.variables; thms = k.thms }
 
 -- ---- records
 
@@ -94,24 +97,6 @@ with_thm k r = record k { thms = k.thms ++ r ∷ [] }
 
 -- ---- what is true of a kernel
 
--- the number is that of a formula
-pub record HasFormula (s : TermStore) (t : ℕ) : Type 0 where
-  pub there : HasTerm s t
-  pub formula : IsFormula (term_tree s t)
-
--- each of the numbers is that of a formula
-pub record HasFormulas (s : TermStore) (ts : List ℕ) : Type 0 where
-  pub each : (t : ℕ) → In t ts → HasFormula s t
-
--- the term has no Open variable
-pub record HasNoOpen (t : Term) : Type 0 where
-  pub none : (n : List ℕ) (ty : Ty) → In (FreeTm Open n ty) (free_variables t) → ⊥
-
--- each of the numbers is that of a formula without Open variables
-pub record IsContext (s : TermStore) (context : List ℕ) : Type 0 where
-  pub formulas : HasFormulas s context
-  pub no_open : (t : ℕ) → In t context → HasNoOpen (term_tree s t)
-
 -- hypotheses of a record: formulas outside the context, in rising order
 pub record AreHyps (s : TermStore) (context hyps : List ℕ) : Type 0 where
   pub formulas : HasFormulas s hyps
@@ -134,20 +119,25 @@ pub record IsKernel (k : KernelState) : Type 0 where
   pub context : IsContext k.store k.context
   pub thms : (t : ℕ) (r : Thm) → slice_get k.thms t ≡ Some r → IsThm k.store k.facts k.context r
 
--- a kernel with the numbers of its constants, and its context in rising order
+-- a kernel with the numbers of its constants, its context in rising order, and the context's free variables too
 pub record IsInside (k : KernelState) (numbers : Constants) (ordered : List ℕ) : Type 0 where
   pub kernel : IsKernel k
   pub constants : AreConstants k.store numbers
   pub rises : Rises ordered
   pub same : SameIds ordered k.context
+  pub variables : AreVariables k.store k.variables (context_of k)
+  pub variables_rise : Rises k.variables
 
 -- ---- how a kernel goes on
 
--- facts, context and earlier terms and records stay
+-- base, facts, context and earlier terms and records stay
 pub record KeepsRecords (old new : KernelState) : Type 0 where
   pub store : Keeps old.store new.store
+  pub base : new.base ≡ old.base
+  pub constants : new.constants ≡ old.constants
   pub facts : new.facts ≡ old.facts
   pub context : new.context ≡ old.context
+  pub variables : new.variables ≡ old.variables
   pub fact_trees : facts_of new ≡ facts_of old
   pub context_trees : context_of new ≡ context_of old
   -- each record is still there

@@ -1,4 +1,4 @@
-pub mod Constants
 pub mod Hyps
 pub mod KernelState
 pub mod RuleForms
+pub mod Marks

@@ -1,8 +1,7 @@
 -- What some rules ask of conclusions and terms.
-use Rattle.std.specs.Prelude.{◌≡◌, ℕ, List}
+use Rattle.std.specs.Prelude.{◌≡◌, List}
 use Rattle.hol_types.specs.Ty.{Ty}
-use Rattle.hol_terms.specs.Term.{Term, FreeTm, AppTm, LamTm, ty_of}
-use Rattle.hol_terms.specs.declared.node.FreeKind.TheVariants.{Open}
+use Rattle.hol_terms.specs.Term.{Term, AppTm, LamTm, ty_of}
 use Rattle.hol_terms.specs.Substitution.{subst_bound, IsFreeVariable}
 use Rattle.hol_terms.specs.Formula.{NotFreeIn, NotFreeInAny, without}
 use Rattle.hol_terms.specs.Constants.{equation, negation, for_all, exists}
@@ -64,12 +63,6 @@ pub record IsExistence (said : Term) : Type 0 where
   pub type : Ty
   pub body : Term
   pub is : said ≡ exists type (LamTm type body)
-
--- an Open variable
-pub record IsOpen (t : Term) : Type 0 where
-  pub name : List ℕ
-  pub type : Ty
-  pub is : t ≡ FreeTm Open name type
 
 -- functions that agree on a free variable of which neither they nor a hypothesis speaks
 pub record Agree (hyps : List Term) (said v f g : Term) : Type 0 where

@@ -6,14 +6,19 @@ ghost use Rattle.hol_terms.specs.Substitution.{IsClosed};
 ghost use Rattle.hol_terms.specs.TermStore.{HasTerm, Keeps, TermsApart, term_tree};
 ghost use Rattle.hol_terms.specs.Formula.{IsFormula};
 ghost use Rattle.hol_terms.specs.Derivable.{Derivable};
-ghost use Rattle.lcf_kernel.specs.Constants.{AreConstants};
-ghost use Rattle.lcf_kernel.specs.KernelState.{trees, HasThm, thm_at, concl_of, hyps_of, bare_of, facts_of, context_of, all_hyps_of, adopted_of, opened_of, with_thm, HasFormula, HasFormulas, IsContext, AreHyps, IsThm, IsKernel, KeepsRecords, KeepsAll, IsOutside, GivesHyps};
+ghost use Rattle.hol_formulas.specs.Constants.{AreConstants};
+ghost use Rattle.hol_formulas.specs.Found.{AreVariables};
+ghost use Rattle.hol_formulas.specs.Formulas.{trees, HasFormula, HasFormulas, IsContext};
+ghost use Rattle.lcf_kernel.specs.KernelState.{KernelState, HasThm, thm_at, concl_of, hyps_of, bare_of, facts_of, context_of, all_hyps_of, adopted_of, opened_of, with_thm, AreHyps, IsThm, IsKernel, KeepsRecords, KeepsAll, IsOutside, GivesHyps};
 ghost use Rattle.lcf_kernel.specs.Hyps.{Rises, SameIds};
+ghost use Rattle.lcf_kernel.specs.Marks.{MayReset, cut, mark_of};
 
-use crate::formula::Constants;
 use crate::hyps::{copied, in_order, outside};
+use crate::mark::KernelMark;
 use crate::thm::{Made, Thm, ThmId};
-use hol_terms::{Frozen, Node, Store, TermFault, TermId, Terms};
+use hol_formulas::formula::Constants;
+use hol_formulas::variables::variables_of;
+use hol_terms::{Frozen, Mark, Node, Store, TermFault, TermId, Terms};
 use hol_types::{List, NameId, Subst, TypeFault, TypeId, TypeInstances, TypeNode};
 use std::alloc::{AllocError, Global};
 use std::marker::Model;
@@ -28,6 +33,8 @@ pub struct Kernel<'b> {
     context: List<TermId>,
     /// The context's ids in rising order, each once.
     ordered: List<TermId>,
+    /// The ids of the context's free variables in rising order, each once.
+    variables: List<TermId>,
     thms: Vec<Thm>,
     alloc: Global,
 }
@@ -35,10 +42,16 @@ pub struct Kernel<'b> {
 /// What a kernel holds beside its terms.
 #[derive(Debug, Drop)]
 pub struct Records {
+    /// How much of the terms is the base's.
+    pub base: Mark,
+    /// The numbers of HOL's constants.
+    pub constants: Constants,
     /// The facts.
     pub facts: List<TermId>,
     /// The formulas that are hypotheses of each record.
     pub context: List<TermId>,
+    /// The free variables of the context.
+    pub variables: List<TermId>,
     /// The records, in the order in which they were made.
     pub thms: List<Thm>,
 }
@@ -48,9 +61,9 @@ impl<'b> Model for Kernel<'b> {
 
     ghost Value = { KernelState };
 
-    ghost view = { λ k. record { store = k.store.store; facts = k.facts; context = k.context; thms = k.thms.items } };
+    ghost view = { λ k. record { store = k.store.store; base = k.store.base; constants = k.constants; facts = k.facts; context = k.context; variables = k.variables; thms = k.thms.items } };
 
-    ghost invariant = { λ k. IsInside (record { store = k.store.store; facts = k.facts; context = k.context; thms = k.thms.items }) k.constants k.ordered };
+    ghost invariant = { λ k. IsInside (record { store = k.store.store; base = k.store.base; constants = k.constants; facts = k.facts; context = k.context; variables = k.variables; thms = k.thms.items }) k.constants k.ordered };
 }
 
 impl<'b> Kernel<'b> {
@@ -70,6 +83,7 @@ impl<'b> Kernel<'b> {
         ensures thms { IfOk result (λ k. k.thms ≡ []) }
     {
         let mut store = Store::over(alloc, base);
+        let variables = variables_in_order(&store, context)?;
         let constants = Constants::new(&mut store)?;
         let ordered = in_order(alloc, context)?;
         let facts = copied(alloc, facts)?;
@@ -81,9 +95,32 @@ impl<'b> Kernel<'b> {
             facts,
             context,
             ordered,
+            variables,
             thms,
             alloc,
         })
+    }
+
+    /// How much the kernel holds now: `reset` takes it back to here.
+    pub fn mark(&self) -> KernelMark
+        ensures mark { result ≡ mark_of self.now }
+        ensures whole { cut result self.now ≡ self.now }
+        ensures may_reset { MayReset result self.now }
+    {
+        let store = self.store.mark();
+        let thms = self.thms.len();
+        KernelMark { store, thms }
+    }
+
+    /// Takes away all records, names, declared constructors, types and terms that came after the mark, which is one that
+    /// this kernel gave and went on from. The kernel is as it was at the mark. It takes a step for each item that goes.
+    pub fn reset(&mut self, m: KernelMark)
+        requires { MayReset m self.old }
+        ensures cut { self.new ≡ cut m self.old }
+        ensures back { (was : KernelState) → MayReset m was → cut m was ≡ was → KeepsRecords was self.old → self.new ≡ was }
+    {
+        self.store.reset(m.store);
+        self.thms.truncate(m.thms);
     }
 
     /// Records a formula that is derivable from the facts under the context and the hypotheses given. The record's
@@ -184,6 +221,7 @@ impl<'b> Kernel<'b> {
 
     /// The numbers of HOL's constants here.
     pub fn constants(&self) -> Constants
+        ensures is { result ≡ self.now.constants }
         ensures are { AreConstants self.now.store result }
         ensures lawful { IsKernel self.now }
     {
@@ -217,6 +255,15 @@ impl<'b> Kernel<'b> {
         ensures lawful { IsKernel self.now }
     {
         self.ordered.as_slice()
+    }
+
+    /// The free variables of the context in rising order, each once.
+    pub(crate) fn variables(&self) -> &[TermId]
+        ensures rises { Rises result.now }
+        ensures are { AreVariables self.now.store result.now (context_of self.now) }
+        ensures lawful { IsKernel self.now }
+    {
+        self.variables.as_slice()
     }
 
     /// Makes each record of a kernel.
@@ -253,6 +300,17 @@ impl<'b> Kernel<'b> {
         })?;
         Ok(r)
     }
+}
+
+/// The free variables of formulas in rising order, each once.
+fn variables_in_order(store: &Store<'_>, context: &[TermId]) -> Result<List<TermId>, AllocError>
+    requires { HasFormulas store.now.store context.now }
+    ensures rises { IfOk result Rises }
+    ensures are { IfOk result (λ c. AreVariables store.now.store c (trees store.now.store context.now)) }
+{
+    let found = variables_of(store, context)?;
+    let c = in_order(store.allocator(), found.as_slice())?;
+    Ok(c)
 }
 
 impl<'b> Terms for Kernel<'b> {

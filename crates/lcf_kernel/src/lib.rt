@@ -6,19 +6,16 @@
 //! `concl` and `hyps` lend what a record says, and their contracts say that it is derivable.
 #![tactic(auto)]
 
-pub mod binder;
 mod crosses;
-pub mod equation;
-pub mod formula;
 mod hyps;
 mod kernel;
-pub mod occurs;
+mod mark;
 mod premises;
 mod rules;
 mod thm;
-pub mod unchanged;
 
 pub use crosses::may_cross;
 pub use kernel::{Kernel, Records};
+pub use mark::KernelMark;
 pub use rules::RuleFault;
 pub use thm::{Made, Thm, ThmId};

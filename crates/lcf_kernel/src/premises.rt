@@ -7,13 +7,14 @@ ghost use Rattle.hol_terms.specs.Substitution.{IsClosed, subst_types};
 ghost use Rattle.hol_terms.specs.TermStore.{HasTerm, TermsApart, term_tree};
 ghost use Rattle.hol_terms.specs.Formula.{IsFormula, without};
 ghost use Rattle.hol_terms.specs.Constants.{implication, conjunction, disjunction, negation, equation, false_tm};
-ghost use Rattle.lcf_kernel.specs.KernelState.{trees, HasThm, concl_of, hyps_of, bare_of, context_of, HasFormula, HasFormulas, AreHyps, IsKernel, IsOutside, GivesHyps, KeepsAll};
+ghost use Rattle.hol_formulas.specs.Formulas.{trees, HasFormula, HasFormulas};
+ghost use Rattle.lcf_kernel.specs.KernelState.{HasThm, concl_of, hyps_of, bare_of, context_of, AreHyps, IsKernel, IsOutside, GivesHyps, KeepsAll};
 
 mod binder;
 mod equality;
 mod types;
 
-use crate::formula::{
+use hol_formulas::formula::{
     Sides, and_parts, imp_parts, is_bool, is_false, make_and, make_imp, make_not, make_or,
     not_part, or_parts,
 };

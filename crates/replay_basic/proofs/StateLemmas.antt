@@ -8,7 +8,8 @@ use Rattle.hol_terms.specs.Formula.{In, Within, IsFormula, SameMembers}
 use Rattle.hol_terms.specs.TermStore.{HasTerm, TermsApart, term_tree}
 use Rattle.hol_terms.proofs.KeepsLemmas.{keeps_trans}
 use Rattle.hol_terms.proofs.SetLemmas.{within_left, within_trans, within_both, within_from_same, within_right}
-use Rattle.lcf_kernel.specs.KernelState.{KernelState, KeepsAll, HasThm, HasFormula, concl_of, hyps_of, context_of, all_hyps_of, IsOutside}
+use Rattle.lcf_kernel.specs.KernelState.{KernelState, KeepsAll, HasThm, concl_of, hyps_of, context_of, all_hyps_of, IsOutside}
+use Rattle.hol_formulas.specs.Formulas.{HasFormula}
 use Rattle.proof_plan.specs.PlanValue.{PlanValue, tree_in, claim_of, node_at, rule_of, premises_of, premise_at, premise_claim}
 use Rattle.proof_plan.specs.Rules.{TakesPremises}
 use Rattle.proof_plan.specs.Claims.{Hyps, Context}

@@ -10,8 +10,9 @@ use Rattle.hol_terms.specs.Derivable.{Derivable}
 use Rattle.hol_terms.specs.TermStore.{Keeps}
 use Rattle.hol_terms.proofs.DerivableLemmas.{more}
 use Rattle.hol_terms.proofs.SetLemmas.{within_left}
-use Rattle.lcf_kernel.specs.KernelState.{KernelState, KeepsAll, HasFormulas, IsContext, trees, concl_of, facts_of, context_of, all_hyps_of}
-use Rattle.lcf_kernel.proofs.KeepLemmas.{trees_keep}
+use Rattle.lcf_kernel.specs.KernelState.{KernelState, KeepsAll, concl_of, facts_of, context_of, all_hyps_of}
+use Rattle.hol_formulas.specs.Formulas.{HasFormulas, IsContext, trees}
+use Rattle.hol_formulas.proofs.GrowthLemmas.{trees_keep}
 use Rattle.proof_plan.specs.PlanValue.{PlanValue, premises_of, premise_at, claim_of}
 use Rattle.proof_plan.specs.Accept.{Accept, accepted}
 use Rattle.proof_plan.specs.Claims.{Facts, Assertions, Definitions, Context, Hyps, Claim}

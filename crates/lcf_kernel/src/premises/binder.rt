@@ -8,15 +8,17 @@ ghost use Rattle.hol_terms.specs.TermStore.{HasTerm, term_tree};
 ghost use Rattle.hol_terms.specs.Formula.{IsFormula, NotFreeIn, NotFreeInAny, without};
 ghost use Rattle.hol_terms.specs.Constants.{for_all, exists, chosen};
 ghost use Rattle.hol_terms.specs.Derivable.{applied, abstraction};
-ghost use Rattle.lcf_kernel.specs.KernelState.{HasThm, HasFormula, concl_of, context_of, all_hyps_of, IsKernel, KeepsAll};
+ghost use Rattle.lcf_kernel.specs.KernelState.{HasThm, concl_of, context_of, all_hyps_of, IsKernel, KeepsAll};
+ghost use Rattle.hol_formulas.specs.Formulas.{HasFormula};
 ghost use Rattle.lcf_kernel.specs.RuleForms.{IsGeneral, IsArbitrary, Agree};
 
-use crate::binder::{
+use hol_formulas::binder::{
     Binder, all_part, ex_parts, is_variable, lambda_parts, make_chosen, make_general,
 };
-use crate::formula::{Sides, apply_fitting};
+use hol_formulas::formula::{Sides, apply_fitting};
+use crate::hyps::holds;
 use crate::kernel::Kernel;
-use crate::occurs::{is_open, occurs, occurs_but};
+use hol_formulas::occurs::{occurs, occurs_but};
 use crate::thm::ThmId;
 use hol_terms::{Node, TermId, Terms};
 use std::alloc::AllocError;
@@ -146,18 +148,15 @@ impl<'b> Kernel<'b> {
         Ok(r)
     }
 
-    /// Whether a free variable occurs in the context. No Open variable does.
-    pub(crate) fn in_context(&self, v: TermId) -> Result<bool, AllocError>
+    /// Whether a free variable occurs in the context. It looks at as many ids as the number of the context's free variables
+    /// has binary digits.
+    pub(crate) fn in_context(&self, v: TermId) -> bool
         requires { HasTerm self.now.store v }
-        ensures absent { IfOk result (λ r. r ≡ false → NotFreeInAny (term_tree self.now.store v) (context_of self.now)) }
-        ensures present { IfOk result (λ r. r ≡ true → NotFreeInAny (term_tree self.now.store v) (context_of self.now) → ⊥) }
+        ensures absent { result ≡ false → NotFreeInAny (term_tree self.now.store v) (context_of self.now) }
+        ensures present { result ≡ true → NotFreeInAny (term_tree self.now.store v) (context_of self.now) → ⊥ }
     {
-        let context = self.context();
-        if is_open(self, v) {
-            return Ok(false);
-        }
-        let r = occurs(self, v, context)?;
-        Ok(r)
+        self.know_apart();
+        holds(self.variables(), v)
     }
 
     /// Whether a term is a free variable that no hypothesis of a record speaks of, and nothing in the context.
@@ -174,8 +173,7 @@ impl<'b> Kernel<'b> {
         if in_hyps {
             return Ok(false);
         }
-        let in_context = self.in_context(v)?;
-        if in_context {
+        if self.in_context(v) {
             return Ok(false);
         }
         Ok(true)
@@ -198,7 +196,8 @@ impl<'b> Kernel<'b> {
         self.body_of_some(said, v)
     }
 
-    /// Whether a free variable occurs in a formula of the context other than a given one. No Open variable does.
+    /// Whether a free variable occurs in a formula of the context other than a given one. The formulas are walked only where
+    /// it occurs in the context.
     fn in_context_but(&self, v: TermId, but: TermId) -> Result<bool, AllocError>
         requires variable { HasTerm self.now.store v }
         requires but { HasTerm self.now.store but }
@@ -206,11 +205,10 @@ impl<'b> Kernel<'b> {
         ensures present { IfOk result (λ r. r ≡ true → NotFreeInAny (term_tree self.now.store v) (without (term_tree self.now.store but) (context_of self.now)) → ⊥) }
     {
         self.know_apart();
-        let context = self.context();
-        if is_open(self, v) {
+        if !self.in_context(v) {
             return Ok(false);
         }
-        let r = occurs_but(self, v, context, but)?;
+        let r = occurs_but(self, v, self.context(), but)?;
         Ok(r)
     }
 

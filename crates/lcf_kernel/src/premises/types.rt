@@ -4,11 +4,12 @@ ghost use Rattle.hol_types.specs.TypeSubst.{HasSubst, subst_tree};
 ghost use Rattle.hol_terms.specs.Substitution.{subst_types};
 ghost use Rattle.hol_terms.specs.TermStore.{HasTerm, term_tree};
 ghost use Rattle.hol_terms.specs.Formula.{ChangesNone};
-ghost use Rattle.lcf_kernel.specs.KernelState.{trees, HasThm, HasFormulas, concl_of, all_hyps_of, IsKernel, KeepsAll};
+ghost use Rattle.hol_formulas.specs.Formulas.{trees, HasFormulas};
+ghost use Rattle.lcf_kernel.specs.KernelState.{HasThm, concl_of, all_hyps_of, IsKernel, KeepsAll};
 
 use crate::kernel::Kernel;
 use crate::thm::ThmId;
-use crate::unchanged::changes_none;
+use hol_formulas::unchanged::changes_none;
 use hol_terms::TermId;
 use hol_types::{List, Subst};
 use std::alloc::AllocError;

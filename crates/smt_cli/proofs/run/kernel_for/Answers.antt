@@ -1,5 +1,5 @@
 use Rattle.std.proofs.Common.{◌∙◌, ap, sym, subst}
-use Rattle.lcf_kernel.specs.KernelState.{HasFormulas, IsContext}
+use Rattle.hol_formulas.specs.Formulas.{HasFormulas, IsContext}
 use Rattle.smt_cli.proofs.RunLemmas.{facts_there, context_there, serves_new}
 use Rattle.smt_cli.proofs.run.kernel_for.Goals as goal
 

@@ -1,4 +1,5 @@
-use Rattle.lcf_kernel.specs.KernelState.{trees, facts_of, context_of}
+use Rattle.hol_formulas.specs.Formulas.{trees}
+use Rattle.lcf_kernel.specs.KernelState.{facts_of, context_of}
 use Rattle.lcf_kernel.proofs.RuleLemmas.{follows_adopted}
 use Rattle.lcf_kernel.proofs.kernel.Kernel.adopt.Goals as goal
 

@@ -1,4 +1,4 @@
-use Rattle.lcf_kernel.proofs.UnchangedLemmas.{formulas_append}
+use Rattle.hol_formulas.proofs.UnchangedLemmas.{formulas_append}
 use Rattle.lcf_kernel.proofs.kernel.Kernel.all_hyps.Goals as goal
 
 pub returns-clause-formulas : goal.returns-clause-formulas

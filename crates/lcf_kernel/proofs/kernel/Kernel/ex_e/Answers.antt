@@ -5,10 +5,11 @@ use Rattle.hol_terms.specs.Constants.{exists}
 use Rattle.hol_terms.specs.TermStore.{term_tree}
 use Rattle.hol_terms.specs.Formula.{IsFormula, SameMembers, without}
 use Rattle.hol_terms.proofs.FormulaLemmas.{exists_part}
-use Rattle.lcf_kernel.specs.KernelState.{trees, concl_of, hyps_of, all_hyps_of, context_of}
+use Rattle.hol_formulas.specs.Formulas.{trees}
+use Rattle.lcf_kernel.specs.KernelState.{concl_of, hyps_of, all_hyps_of, context_of}
 use Rattle.lcf_kernel.specs.RuleForms.{IsArbitrary, IsElimination}
 use Rattle.lcf_kernel.proofs.KeepLemmas.{keeps_all_trans}
-use Rattle.lcf_kernel.proofs.OccursLemmas.{variable_closed}
+use Rattle.hol_formulas.proofs.OccursLemmas.{variable_closed}
 use Rattle.lcf_kernel.proofs.FollowLemmas.{from_two, ex_e_under, premise, recorded}
 use Rattle.lcf_kernel.proofs.kernel.Kernel.ex_e.Goals as goal
 

@@ -3,7 +3,8 @@ use Rattle.hol_terms.specs.Term.{ty_of}
 use Rattle.hol_types.specs.Ty.{Ty, BoolTy}
 use Rattle.hol_terms.specs.TermStore.{term_tree}
 use Rattle.hol_terms.specs.Constants.{equation}
-use Rattle.lcf_kernel.specs.KernelState.{trees, concl_of, hyps_of, context_of}
+use Rattle.hol_formulas.specs.Formulas.{trees}
+use Rattle.lcf_kernel.specs.KernelState.{concl_of, hyps_of, context_of}
 use Rattle.lcf_kernel.proofs.KeepLemmas.{keeps_all_trans}
 use Rattle.lcf_kernel.proofs.FollowLemmas.{from_two, iff_i_under, premise, recorded}
 use Rattle.lcf_kernel.proofs.kernel.Kernel.iff_i.Goals as goal

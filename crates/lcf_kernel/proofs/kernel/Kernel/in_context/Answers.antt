@@ -1,9 +1,18 @@
-use Rattle.std.proofs.Common.{refl}
+use Rattle.std.proofs.Common.{◌≡◌, ◌∙◌, sym, true, false, true≢false}
 use Rattle.hol_terms.specs.TermStore.{term_tree}
-use Rattle.lcf_kernel.proofs.OccursLemmas.{absent_open}
+use Rattle.hol_formulas.proofs.FoundLemmas.{absent_outside, present_among}
+use Rattle.lcf_kernel.specs.KernelState.{context_of}
+use Rattle.lcf_kernel.proofs.IdLemmas.{stands-In, stands-from_In}
 use Rattle.lcf_kernel.proofs.kernel.Kernel.in_context.Goals as goal
 
-pub returns-then-is_open-clause-absent : goal.returns-then-is_open-clause-absent
-returns-then-is_open-clause-absent c e =
-    let s = c.args.self.now.store in
-    absent_open s c.args.self.now.context (rw (← c.context-context.ensures.is) c.context-context.ensures.are) (term_tree s c.args.v) (c.if-is_open.ensures refl)
+pub returns-clause-absent : goal.returns-clause-absent
+returns-clause-absent c e =
+    let k = c.args.self.now in
+    let vars = c.variables.result.now in
+    absent_outside k.store c.know_apart.ensures.apart vars (context_of k) c.variables.ensures.are c.args.v c.requires (λ h. true≢false (sym (stands-from_In vars c.args.v h) ∙ sym c.holds.ensures ∙ e))
+
+pub returns-clause-present : goal.returns-clause-present
+returns-clause-present c e none =
+    let k = c.args.self.now in
+    let vars = c.variables.result.now in
+    present_among k.store c.know_apart.ensures.apart vars (context_of k) c.variables.ensures.are c.args.v c.requires (stands-In vars c.args.v (sym c.holds.ensures ∙ e)) none

@@ -1,6 +1,6 @@
 use Rattle.hol_terms.specs.TermStore.{term_tree}
 use Rattle.lcf_kernel.specs.KernelState.{context_of, hyps_of}
-use Rattle.lcf_kernel.proofs.OccursLemmas.{absent_both_but, absent_left_but, absent_right_but}
+use Rattle.hol_formulas.proofs.OccursLemmas.{absent_both_but, absent_left_but, absent_right_but}
 use Rattle.lcf_kernel.proofs.kernel.Kernel.in_hyps_but.Goals as goal
 
 pub returns-then-in_own-clause-present : goal.returns-then-in_own-clause-present

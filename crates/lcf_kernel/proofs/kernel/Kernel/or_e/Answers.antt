@@ -1,7 +1,8 @@
 use Rattle.std.proofs.Common.{◌≡◌, ◌∙◌, refl, ap, sym, arith, tests}
 use Rattle.hol_terms.specs.TermStore.{term_tree}
 use Rattle.hol_terms.specs.Constants.{disjunction}
-use Rattle.lcf_kernel.specs.KernelState.{trees, concl_of, hyps_of, context_of}
+use Rattle.hol_formulas.specs.Formulas.{trees}
+use Rattle.lcf_kernel.specs.KernelState.{concl_of, hyps_of, context_of}
 use Rattle.lcf_kernel.proofs.FollowLemmas.{from_three, or_e_under, premise, recorded}
 use Rattle.lcf_kernel.proofs.kernel.Kernel.or_e.Goals as goal
 

@@ -1,6 +1,6 @@
 use Rattle.std.proofs.Common.{◌∙◌, sym, ap}
 use Rattle.hol_terms.specs.Term.{Term, ty_of}
-use Rattle.lcf_kernel.proofs.ConstantLemmas.{redex_type}
+use Rattle.hol_formulas.proofs.ConstantLemmas.{redex_type}
 use Rattle.lcf_kernel.proofs.KeepLemmas.{keeps_all_trans}
 use Rattle.lcf_kernel.proofs.kernel.Kernel.reduction.Goals as goal
 

@@ -1,0 +1,5 @@
+use Rattle.hol_formulas.proofs.ConstantLemmas.{takes_formulas}
+use Rattle.hol_formulas.proofs.formula.make_or.Goals as goal
+
+pub applied_to_two-requires-clause-fits : goal.applied_to_two-requires-clause-fits
+applied_to_two-requires-clause-fits g c = takes_formulas _ _ _ _ c.requires.constants.or.is c.requires.left_bool c.requires.right_bool

@@ -1,0 +1,23 @@
+use Rattle.std.proofs.Common.{sym, arith}
+use Rattle.hol_terms.specs.TermStore.{term_tree}
+use Rattle.hol_formulas.proofs.ListLemmas.{In-from_Contains}
+use Rattle.hol_formulas.proofs.OccursLemmas.{absent_but, absent_but_more, present_but}
+use Rattle.hol_formulas.proofs.occurs.occurs_but.Goals as goal
+
+pub occurs_in_other-requires-clause-there : goal.occurs_in_other-requires-clause-there
+occurs_in_other-requires-clause-there g c = (c.requires.formulas.each c.t-item.result (In-from_Contains c.args.ts.now c.t-item.result (c.loop-t.t-index, c.loop-t-test.true, sym c.t-item.is))).there
+
+pub loop-t-preserved : goal.loop-t-preserved
+loop-t-preserved g c =
+    let s = g.S.Terms.store c.args.store.now in
+    absent_but_more s (term_tree s c.args.v) (term_tree s c.args.but) c.args.ts.now c.loop-t.t-index c.t-item.result c.loop-t-test.true c.t-item.is (c.in_ok-free.ensures.absent c.if-free.false) c.loop-t.invariant
+
+pub returns-then-free-clause-present : goal.returns-then-free-clause-present
+returns-then-free-clause-present g c e none =
+    let s = g.S.Terms.store c.args.store.now in
+    present_but s (term_tree s c.args.v) (term_tree s c.args.but) c.args.ts.now c.loop-t.t-index c.t-item.result c.loop-t-test.true c.t-item.is (c.in_ok-free.ensures.other c.if-free.true) (c.in_ok-free.ensures.present c.if-free.true) none
+
+pub returns-clause-absent : goal.returns-clause-absent
+returns-clause-absent g c e =
+    let s = g.S.Terms.store c.args.store.now in
+    absent_but s (term_tree s c.args.v) (term_tree s c.args.but) c.args.ts.now (λ k h. c.loop-t.invariant k (omega (arith, h, c.loop-t-test.false)))

@@ -1,5 +1,0 @@
-use Rattle.lcf_kernel.proofs.ConstantLemmas.{takes_formulas}
-use Rattle.lcf_kernel.proofs.formula.make_or.Goals as goal
-
-pub applied_to_two-requires-clause-fits : goal.applied_to_two-requires-clause-fits
-applied_to_two-requires-clause-fits g c = takes_formulas _ _ _ _ c.requires.constants.or.is c.requires.left_bool c.requires.right_bool
