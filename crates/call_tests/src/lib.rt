@@ -6,6 +6,8 @@
 #[cfg(test)]
 mod files;
 #[cfg(test)]
+mod goal;
+#[cfg(test)]
 mod kernel;
 #[cfg(test)]
 mod parts;
