@@ -173,3 +173,7 @@ pub quantifier_applies : (two three : TermStore) (name : List ℕ) (ty f lambda 
     → term_tree three f ≡ ConstTm name (FunTy (FunTy (type_tree two.types ty) BoolTy) BoolTy) → Applies three f lambda
 quantifier_applies two three name ty f lambda k h there tree =
     fits_one three f lambda (FunTy (type_tree two.types ty) BoolTy) BoolTy (number_typed three f (ConstTm name (FunTy (FunTy (type_tree two.types ty) BoolTy) BoolTy)) there tree) (typed_kept k h)
+
+pub nothing_left : (n : ℕ) (bs : List (List ℕ × ℕ)) → bs ≡ [] → drop n bs ≡ []
+nothing_left zero bs e = e
+nothing_left (suc n) bs e = ap (drop (suc n)) e

@@ -1,16 +1,24 @@
--- Facts and the goal, once their terms are read.
-use Rattle.std.proofs.Common.{◌≡◌, ℕ, List, [], ◌∷◌, ◌++◌, Option, Some, None, Vec, Global, refl, sym, ap, subst, ◌∙◌}
-use Rattle.hol_terms.specs.TermStore.{TermStore, HasTerm, Keeps, term_tree}
+-- The formula of a fact or of the goal.
+use Rattle.std.proofs.Common.{◌≡◌, ℕ, List, [], Result, Ok, Err, true, false, refl, sym, ap, subst, ◌∙◌}
+use Rattle.hol_types.specs.Ty.{BoolTy}
+use Rattle.hol_types.specs.TyEq.{ty_eq}
+use Rattle.hol_terms.specs.Term.{Term, ty_of}
+use Rattle.hol_terms.specs.TermStore.{TermStore, Keeps}
+use Rattle.sexp.specs.Tree.{Tree}
+use Rattle.goal_text.specs.declared.fault.GoalFailure.{GoalFailure}
+use Rattle.goal_text.specs.declared.fault.GoalFailure.TheVariants as failures
+use Rattle.goal_text.specs.declared.fault.GoalKind.TheVariants.{NotBool}
 use Rattle.goal_text.specs.declared.items.Items.{Items as Made}
 use Rattle.goal_text.specs.declared.scope.Scope.{Scope}
-use Rattle.goal_text.specs.Items.{Items, env_behind}
+use Rattle.goal_text.specs.Read.{Read, ◌>>=◌, Fails, faulty, wanting}
+use Rattle.goal_text.specs.Items.{env_behind, formula_of}
 use Rattle.goal_text.specs.ItemsIn.{AreItems, items_in}
-use Rattle.goal_text.specs.Scope.{AreTerms, binders_in, consts_in, env_of, terms_at, types_in}
-use Rattle.goal_text.proofs.ItemLemmas.{items_kept, items_same, terms_more}
-use Rattle.goal_text.proofs.OperationLemmas.{terms_pushed}
+use Rattle.goal_text.specs.Scope.{binders_in, consts_in, env_of, types_in}
+use Rattle.goal_text.specs.Terms.{term_of}
+use Rattle.goal_text.proofs.ItemLemmas.{items_kept, items_same}
 
 -- what names stand for in the next item
-pub env_outermost : (made : Made) → made.scope.binders ≡ [] → env_of made.base made.scope ≡ env_behind (items_in made)
+env_outermost : (made : Made) → made.scope.binders ≡ [] → env_of made.base made.scope ≡ env_behind (items_in made)
 unfolding env_of
 env_outermost made e =
     let none : binders_in made.base made.scope.binders ≡ [] = ap (λ l. binders_in made.base l) e in
@@ -24,29 +32,19 @@ module _ (made : Made) (u : TermStore) (scope : Scope) (k : Keeps made.base u) (
   pub items_as_before : items_in (record made { base = u; scope = scope }) ≡ items_in made
   items_as_before = ap (λ (s : Scope). items_in (record made { base = u; scope = s })) same ∙ items_same made u k is
 
-module _ (made : Made) (is : AreItems made) where
-  -- a fact more
-  module _ (facts : Vec ℕ Global) (t : ℕ) (more : facts.items ≡ made.facts.items ++ t ∷ []) where
-    pub fact_said : items_in (record made { facts = facts }) ≡ record (items_in made) { facts = (items_in made).facts ++ term_tree made.base t ∷ [] }
-    fact_said = let f : terms_at made.base facts.items ≡ terms_at made.base made.facts.items ++ term_tree made.base t ∷ [] = ap (λ l. terms_at made.base l) more ∙ terms_pushed made.base made.facts.items t in rw f refl
+module _ (made : Made) (at : ℕ) (tree : Tree) (outermost : made.scope.binders ≡ []) where
+  behind : (r : Read Term) → term_of (env_of made.base made.scope) tree ≡ r → term_of (env_behind (items_in made)) tree ≡ r
+  behind r h = ap (λ e. term_of e tree) (sym (env_outermost made outermost)) ∙ h
 
-    pub fact_there : HasTerm made.base t → AreItems (record made { facts = facts })
-    fact_there there = record {
-      scope = is.scope;
-      outermost = is.outermost;
-      consts = is.consts;
-      declared = is.declared;
-      facts = let P : List ℕ → Type 0 = λ l. AreTerms made.base l in subst P (sym more) (terms_more made.base made.facts.items t is.facts there);
-      goal = is.goal;
-    }
+  pub formula_fails : (x : GoalFailure) → Fails x (term_of (env_of made.base made.scope) tree) → Fails x (formula_of (items_in made) at tree)
+  unfolding formula_of
+  formula_fails failures.Memory h = tt
+  formula_fails (failures.Refused f) h = let none = behind (Err f) h in rw none refl
 
-  -- the goal
-  pub goal_there : (t : ℕ) → HasTerm made.base t → AreItems (record made { goal = Some t })
-  goal_there t there = record {
-    scope = is.scope;
-    outermost = is.outermost;
-    consts = is.consts;
-    declared = is.declared;
-    facts = is.facts;
-    goal = there;
-  }
+  pub formula_read : (t : Term) (test : ty_eq BoolTy (ty_of t) ≡ true) → term_of (env_of made.base made.scope) tree ≡ Ok t → formula_of (items_in made) at tree ≡ Ok t
+  unfolding formula_of
+  formula_read t test h = let one = behind (Ok t) h in rw (one, test) refl
+
+  pub formula_refused : (t : Term) (test : ty_eq BoolTy (ty_of t) ≡ false) → term_of (env_of made.base made.scope) tree ≡ Ok t → formula_of (items_in made) at tree ≡ faulty NotBool at
+  unfolding formula_of
+  formula_refused t test h = let one = behind (Ok t) h in rw (one, test) refl

@@ -1,6 +1,6 @@
 -- What is found by a name.
 use Rattle.std.proofs.Common.{◌≡◌, ℕ, List, [], ◌∷◌, Option, Some, None, Bool, true, false, cond, map, MatchOption, IfSome, refl, sym, ap, subst, ◌∙◌}
-use Rattle.std.specs.Prelude.{bytes_eq, option_map}
+use Rattle.std.specs.Prelude.{bytes_eq, is_some, not, option_map}
 use Rattle.std.specs.Map.{lookup}
 use Rattle.std.specs.List.{AllByRecursion}
 use Rattle.std.proofs.lemmas.Option.{none-some, same_Some}
@@ -10,7 +10,7 @@ use Rattle.hol_types.specs.TypeStore.{HasType, arity_of, text_of, type_tree}
 use Rattle.hol_terms.specs.TermStore.{TermStore}
 use Rattle.goal_text.specs.declared.scope.Constructor.{Constructor}
 use Rattle.goal_text.specs.declared.scope.Constant.{Constant}
-use Rattle.goal_text.specs.Names.{bound_to, one_further}
+use Rattle.goal_text.specs.Names.{bound_to, is_nothing, one_further}
 use Rattle.goal_text.specs.Hiding.{innermost}
 use Rattle.goal_text.specs.Hiding as hiding
 use Rattle.goal_text.specs.Scope.{AreConstructors, AreConstants, AreBound, IsConstructor, IsConstant, binders_in, consts_in, types_in}
@@ -124,3 +124,21 @@ constructor_said s cs name arity all h = by (lookup (bytes_eq name) cs) refl
         let is = found_in (IsConstructor s) cs name c all e in
         let same : c.arity ≡ arity = same_Some _ _ (sym (lookup_map (λ c. c.arity) (bytes_eq name) cs ∙ ap (option_map (λ c. c.arity)) e) ∙ h) in
         (c.name, is.name_is.text, is.declared ∙ ap Some same)
+
+-- whether a name is declared
+nothing_mapped : {X Y : Type 0} (f : X → Y) (o : Option X) → is_nothing (option_map f o) ≡ not (is_some o)
+nothing_mapped f None = refl
+nothing_mapped f (Some x) = refl
+
+pub from_nothing : {A : Type 0} (o : Option A) → is_nothing o ≡ true → o ≡ None
+from_nothing None h = refl
+from_nothing (Some x) h = absurd (bad h)
+  where
+    bad : false ≡ true → ⊥
+    bad e = cc
+
+pub constructor_tested : (cs : List (List ℕ × Constructor)) (name : List ℕ) (o : Option Constructor) (b c : Bool) → o ≡ lookup (bytes_eq name) cs → b ≡ is_some o → b ≡ c → is_nothing (lookup (bytes_eq name) (types_in cs)) ≡ not c
+constructor_tested cs name o b c e t is = ap is_nothing (lookup_map (λ d. d.arity) (bytes_eq name) cs) ∙ nothing_mapped (λ d. d.arity) (lookup (bytes_eq name) cs) ∙ ap (λ p. not (is_some p)) (sym e) ∙ ap not (sym t ∙ is)
+
+pub constant_tested : (s : TermStore) (cs : List (List ℕ × Constant)) (name : List ℕ) (o : Option Constant) (b c : Bool) → o ≡ lookup (bytes_eq name) cs → b ≡ is_some o → b ≡ c → is_nothing (lookup (bytes_eq name) (consts_in s cs)) ≡ not c
+constant_tested s cs name o b c e t is = ap is_nothing (lookup_map (λ d. type_tree s.types d.ty) (bytes_eq name) cs) ∙ nothing_mapped (λ d. type_tree s.types d.ty) (lookup (bytes_eq name) cs) ∙ ap (λ p. not (is_some p)) (sym e) ∙ ap not (sym t ∙ is)

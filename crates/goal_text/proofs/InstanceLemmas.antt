@@ -1,5 +1,5 @@
 -- Which type variables are given types, and the instance of a constant that its arguments give.
-use Rattle.std.proofs.Common.{◌≡◌, ℕ, zero, suc, ◌+◌, ◌<◌, ◌≤◌, List, [], ◌∷◌, Some, None, Option, Ok, Bool, true, false, ◌&&◌, is_some, drop, get_or, length, map, refl, sym, ap, subst, ◌∙◌, arith}
+use Rattle.std.proofs.Common.{◌≡◌, Result, ap₂, ℕ, zero, suc, ◌+◌, ◌<◌, ◌≤◌, List, [], ◌∷◌, Some, None, Option, Ok, Bool, true, false, ◌&&◌, is_some, drop, get_or, length, map, refl, sym, ap, subst, ◌∙◌, arith}
 use Rattle.std.specs.Prelude.{bytes_eq}
 use Rattle.std.specs.Map.{lookup}
 use Rattle.std.specs.List.{AllByRecursion, list_all}
@@ -9,9 +9,13 @@ use Rattle.hol_types.specs.TypeSubst.{TypeSubst, instance_of, variables_of, vari
 use Rattle.hol_types.specs.TypeMatch.{Extends}
 use Rattle.hol_types.specs.declared.node.TypeNode.{TypeNode}
 use Rattle.hol_types.specs.declared.node.TypeNode.TheVariants as nodes
-use Rattle.hol_terms.specs.Term.{Term, ConstTm}
+use Rattle.hol_terms.specs.Term.{Term, ConstTm, ty_of}
 use Rattle.goal_text.specs.declared.fault.GoalKind.TheVariants.{IllTyped, FreeTypeVariable}
-use Rattle.goal_text.specs.Read.{Read, faulty, wanting}
+use Rattle.goal_text.specs.declared.fault.GoalFailure.{GoalFailure}
+use Rattle.goal_text.specs.Read.{Read, Gives, ◌>>=◌, faulty, wanting}
+use Rattle.goal_text.specs.Forms.{Instance}
+use Rattle.goal_text.specs.Terms.{apply_all, built}
+use Rattle.goal_text.proofs.ReadLemmas.{gives_same}
 use Rattle.goal_text.specs.Matching.{covers, instance_by, instance_for, match_parameters}
 use Rattle.goal_text.proofs.MatchLemmas.{IsAlike, all_next, covers_alike, instance_alike}
 
@@ -84,3 +88,15 @@ node_other st (nodes.Cons m ts) other a b h = cc
 
 pub no_parameters : (st : TypeStore) (n : TypeNode) (s : TypeSubst) (p : Ty) (ts : List Ty) → p ≡ tree_of st n → ((a b : ℕ) → n ≡ nodes.Fun a b → ⊥) → match_parameters s p ts ≡ Some s
 no_parameters st n s p ts e other = parameters_end s p ts (λ a b h. node_other st n other a b (sym e ∙ h))
+
+-- the constant at the instance, made from numbers
+pub instance_given : {X : Type 0} (view : X → Term) (r : Result X GoalFailure) (at head : ℕ) (name late : List ℕ) (type made : Ty) (ts : List Ty) (u s : TypeSubst) → match_parameters [] type ts ≡ Some u → Extends u s → Extends s u → covers s type ≡ true
+    → late ≡ name → made ≡ instance_of s type → Gives view r (Ok (ConstTm late made)) → Gives view r (instance_for at head name type ts)
+instance_given view r at head name late type made ts u s found there back test same is h =
+    let one : ◌≡◌ {A = Read Term} (Ok (ConstTm late made)) (Ok (ConstTm name (instance_of s type))) = ap₂ (λ n t. Ok (ConstTm n t)) same is in
+    gives_same view r _ _ (one ∙ sym (instance_found at head name type ts u s found there back test)) h
+
+-- the constant applied to its arguments
+pub built_instance : (at head : ℕ) (name : List ℕ) (type : Ty) (xs : List Term) (f : Term) → instance_for at head name type (map ty_of xs) ≡ Ok f → built at (Instance head name type) xs ≡ apply_all at f xs
+unfolding built
+built_instance at head name type xs f h = rw h refl

@@ -12,7 +12,9 @@ pub mod PartLemmas
 pub mod FormLemmas
 pub mod BuiltLemmas
 pub mod ItemLemmas
+pub mod ReadLemmas
 pub mod InstanceLemmas
+pub mod DeclareLemmas
 pub mod TermLemmas
 pub mod FactLemmas
 pub mod ProblemLemmas

@@ -1,5 +1,6 @@
 -- Reading one term.
-use Rattle.std.proofs.Common.{◌≡◌, ◌⊎◌, inl, inr, ℕ, List, [], ◌∷◌, ◌++◌, Result, Ok, Err, drop, take, refl, sym, ap, subst, ◌∙◌}
+use Rattle.std.proofs.Common.{◌≡◌, ◌⊎◌, inl, inr, ℕ, ◌+◌, Bool, List, [], ◌∷◌, ◌++◌, Result, Ok, Err, drop, length, take, refl, sym, ap, ap₂, subst, ◌∙◌}
+use Rattle.std.proofs.lemmas.List.{length-append}
 use Rattle.hol_terms.specs.Term.{Term}
 use Rattle.hol_terms.specs.TermStore.{TermStore, Keeps, term_tree}
 use Rattle.sexp.specs.Tree.{Tree, Trees, AtomTree, QuotedTree, ListTree, no_trees, place}
@@ -14,25 +15,12 @@ use Rattle.goal_text.specs.Read.{Read, Fails, Gives, faulty}
 use Rattle.goal_text.specs.Names.{Env}
 use Rattle.goal_text.specs.Lexicon.{IsLeaf}
 use Rattle.goal_text.specs.Bounds.{AllFit}
-use Rattle.goal_text.specs.Forms.{Part}
+use Rattle.goal_text.specs.Forms.{Part, operands}
 use Rattle.goal_text.specs.Terms.{atom_of, term_of, terms_of}
-use Rattle.goal_text.specs.Scope.{IsScope, KeepsDeclared, binders_in, bound_by, env_of}
+use Rattle.goal_text.specs.Scope.{AreTerms, IsScope, terms_at, KeepsDeclared, binders_in, bound_by, env_of}
 use Rattle.goal_text.proofs.FitLemmas.{fit_front, terms_fit}
 use Rattle.goal_text.proofs.FormLemmas.{split_binders}
-use Rattle.goal_text.proofs.PartLemmas.{binders_taken}
-
--- an atom
-pub atom_read : {X : Type 0} (view : X → Term) (r : Result X GoalFailure) (env : Env) (tree : Tree) (at : ℕ) (text : List ℕ) → tree ≡ AtomTree at text → Gives view r (atom_of env at text) → Gives view r (term_of env tree)
-unfolding term_of
-atom_read {X = X} view r env tree at text is h =
-    let P : Tree → Type 0 = λ t. Gives view r (term_of env t) in
-    subst P (sym is) h
-
--- a quoted atom
-pub quoted_refused : (env : Env) (tree : Tree) (parts : Trees) → Tells kinds.List tree parts ⊎ Tells kinds.Quoted tree no_trees → IsLeaf tree → term_of env tree ≡ faulty Syntax (place tree)
-unfolding term_of
-quoted_refused env tree parts (inl is) leaf = absurd (subst (λ t. IsLeaf t) is leaf)
-quoted_refused env tree parts (inr is) leaf = ap (term_of env) is.1
+use Rattle.goal_text.proofs.PartLemmas.{binders_taken, term_pushed, with_terms}
 
 -- the terms of a form's parts fit its variables
 pub parts_fit : (s u : TermStore) (scope : Scope) (n : ℕ) (kinds : List Part) (trees : Trees) (ts : List Term) → Keeps s u → IsScope s scope → terms_of (env_of s scope) kinds trees ≡ Ok ts → AllFit (binders_in u (take n scope.binders)) ts
@@ -44,10 +32,10 @@ parts_fit s u scope n kinds trees ts k is h =
     let front = fit_front own outer ts (subst (λ bs. AllFit bs ts) (split_binders s scope.binders n) all) in
     subst (λ bs. AllFit bs ts) (sym (binders_taken s u k scope.binders is.binders n)) front
 
--- the scope is as before, once a form's variables have left
-pub scope_back : (old inner late new : Scope) (n : ℕ) → KeepsDeclared old inner → late ≡ inner → KeepsDeclared late new → drop n inner.binders ≡ old.binders → new.binders ≡ drop n late.binders → new ≡ old
-scope_back old inner late new n before same after outer left =
-    let types : new.types ≡ old.types = after.types ∙ ap (λ (s : Scope). s.types) same ∙ before.types in
-    let consts : new.consts ≡ old.consts = after.consts ∙ ap (λ (s : Scope). s.consts) same ∙ before.consts in
-    let binders : new.binders ≡ old.binders = left ∙ ap (λ (s : Scope). drop n s.binders) same ∙ outer in
-    λ i. record { types = types i; consts = consts i; binders = binders i }
+-- one more term is read
+pub pushed_on : (s u : TermStore) (items new : List ℕ) (t : ℕ) (env : Env) (divides : Bool) (rest : Trees) (total : Read (List Term)) → Keeps s u → AreTerms s items → new ≡ items ++ t ∷ []
+    → with_terms (terms_at s items ++ term_tree u t ∷ []) (terms_of env (drop (length items + 1) (operands divides)) rest) ≡ total → with_terms (terms_at u new) (terms_of env (drop (length new) (operands divides)) rest) ≡ total
+pushed_on s u items new t env divides rest total k all e h =
+    let front : terms_at u new ≡ terms_at s items ++ term_tree u t ∷ [] = ap (λ l. terms_at u l) e ∙ term_pushed s u items t k all in
+    let count : length new ≡ length items + 1 = ap length e ∙ length-append items (t ∷ []) in
+    ap₂ (λ f n. with_terms f (terms_of env (drop n (operands divides)) rest)) front count ∙ h

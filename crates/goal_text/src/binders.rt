@@ -104,9 +104,9 @@ impl Binders {
         }
     }
 
-    /// Takes the innermost variable away, and gives its type.
+    /// Takes the innermost variable away, and gives its type. Where there is none, nothing changes.
     pub fn leave(&mut self) -> Option<TypeId>
-        ensures { MatchOption result (self.old ≡ []) (λ ty. (name : List ℕ) × (self.old ≡ (name, ty) ∷ self.new)) }
+        ensures { MatchOption result ((self.old ≡ []) × (self.new ≡ [])) (λ ty. (name : List ℕ) × (self.old ≡ (name, ty) ∷ self.new)) }
     {
         match self.stack.pop() {
             Some(bound) => {

@@ -6,7 +6,7 @@ use Rattle.hol_terms.proofs.KeepsLemmas.{keeps_trans}
 use Rattle.goal_text.specs.Bounds.{FitsAll}
 use Rattle.goal_text.specs.Operations as operations
 use Rattle.goal_text.specs.Scope.{binders_in}
-use Rattle.goal_text.proofs.BuiltLemmas.{body_fits, innermost_fits, others_fit, others_there, outer_left, under_next, variable_there}
+use Rattle.goal_text.proofs.BuiltLemmas.{body_fits, innermost_fits, others_fit, nothing_left, others_there, outer_left, under_next, variable_there}
 use Rattle.goal_text.proofs.FitLemmas.{same_Ok}
 use Rattle.goal_text.proofs.built.under_all.Goals as goal
 
@@ -63,3 +63,6 @@ loop-left-preserved c =
       fits = subst (λ x. operations.fits_body c.args.binder (ty_of x) ≡ true) made (body_fits c.args.binder (type_tree now.types ty) p inv.fits);
       read = subst (λ x. operations.under_all c.args.binder rest x ≡ operations.under_all c.args.binder (binders_in s (take c.args.n c.args.scope.now.binders)) (term_tree s c.args.body)) made (under_next s bs cs name ty left (left - 1) is next now inv.keeps inv.scope.binders c.args.binder p _ inv.read);
     }
+
+pub returns-in_default-clause-binders : goal.returns-in_default-clause-binders
+returns-in_default-clause-binders c = c.in_default.ensures.1 ∙ sym (nothing_left c.loop-left.left c.loop-left.scope.binders c.in_default.ensures.0) ∙ c.loop-left.invariant.outer

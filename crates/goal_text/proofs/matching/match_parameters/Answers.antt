@@ -42,11 +42,15 @@ loop-term-preserved c =
       found = (next.0, next.2, parameters_step _ inv.found.0 _ _ _ _ _ _ is split inv.found.2 next.0 next.1);
     }
 
-pub returns-in_default-clause-found : goal.returns-in_default-clause-found
-returns-in_default-clause-found c =
+pub returns-in_default : goal.returns-in_default
+returns-in_default c =
     let types = c.args.base.now.types in
     let inv = c.loop-term.invariant in
-    (inv.found.0, inv.found.2 ∙ no_parameters types c.type_node.result.now inv.found.0 (type_tree types c.loop-term.u) _ c.type_node.ensures.tree c.in_default.not-Fun, inv.found.1.there, inv.found.1.back)
+    record {
+      there = inv.there;
+      found = (inv.found.0, inv.found.2 ∙ no_parameters types c.type_node.result.now inv.found.0 (type_tree types c.loop-term.u) _ c.type_node.ensures.tree c.in_default.not-Fun, inv.found.1.there, inv.found.1.back);
+      none = tt;
+    }
 
 pub returns-clause-found : goal.returns-clause-found
 returns-clause-found c =
