@@ -1,10 +1,10 @@
 -- Applications, and bodies under variables.
-use Rattle.std.proofs.Common.{◌≡◌, ℕ, zero, suc, ◌+◌, ◌<◌, List, [], ◌∷◌, ◌++◌, Result, Ok, Err, Bool, true, false, ◌&&◌, map, drop, take, get_or, length, refl, sym, ap, subst, ◌∙◌, arith}
+use Rattle.std.proofs.Common.{◌≡◌, ℕ, zero, suc, ◌+◌, ◌<◌, List, [], ◌∷◌, Ok, Err, Bool, true, false, ◌&&◌, map, drop, take, get_or, length, refl, sym, ap, subst, ◌∙◌, arith}
 use Rattle.hol_types.specs.Exact.{both_true}
 use Rattle.hol_types.specs.Ty.{Ty, BoolTy, IntTy, VarTy, FunTy, ConsTy}
 use Rattle.hol_types.specs.TyEq.{ty_eq}
 use Rattle.hol_types.specs.TypeStore.{HasType, type_tree}
-use Rattle.hol_types.proofs.TyEqLemmas.{ty_eq_sound, ty_eq_same, ty_eq_refl}
+use Rattle.hol_types.proofs.TyEqLemmas.{ty_eq_sound, ty_eq_refl}
 use Rattle.hol_terms.specs.Term.{Term, AppTm, ConstTm, LamTm, BoundsFit, Typed, ty_of, result_ty}
 use Rattle.hol_terms.specs.TermStore.{TermStore, Applies, HasTerm, Keeps, term_tree}
 use Rattle.goal_text.specs.declared.fault.GoalFault.{GoalFault}

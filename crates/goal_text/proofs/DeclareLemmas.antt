@@ -1,5 +1,5 @@
 -- Declarations, once their parts are read.
-use Rattle.std.proofs.Common.{◌≡◌, ℕ, List, Result, Ok, Err, true, false, refl}
+use Rattle.std.proofs.Common.{◌≡◌, ℕ, List, Ok, true, false, refl}
 use Rattle.std.specs.Prelude.{bytes_eq}
 use Rattle.std.specs.Map.{lookup}
 use Rattle.hol_types.specs.Ty.{Ty}
@@ -7,7 +7,7 @@ use Rattle.sexp.specs.Tree.{Tree, Trees}
 use Rattle.goal_text.specs.declared.fault.GoalFailure.{GoalFailure}
 use Rattle.goal_text.specs.declared.fault.GoalFailure.TheVariants as failures
 use Rattle.goal_text.specs.declared.fault.GoalKind.TheVariants.{DeclaredTwice}
-use Rattle.goal_text.specs.Read.{Read, ◌>>=◌, Fails, faulty, wanting}
+use Rattle.goal_text.specs.Read.{Fails, faulty}
 use Rattle.goal_text.specs.Lexicon.{name_of, two_of}
 use Rattle.goal_text.specs.Names.{is_nothing}
 use Rattle.goal_text.specs.Types.{type_of}

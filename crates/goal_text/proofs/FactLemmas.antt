@@ -1,5 +1,5 @@
 -- The formula of a fact or of the goal.
-use Rattle.std.proofs.Common.{◌≡◌, ℕ, List, [], Result, Ok, Err, true, false, refl, sym, ap, subst, ◌∙◌}
+use Rattle.std.proofs.Common.{◌≡◌, ℕ, [], Ok, Err, true, false, refl, sym, ap, subst, ◌∙◌}
 use Rattle.hol_types.specs.Ty.{BoolTy}
 use Rattle.hol_types.specs.TyEq.{ty_eq}
 use Rattle.hol_terms.specs.Term.{Term, ty_of}
@@ -10,7 +10,7 @@ use Rattle.goal_text.specs.declared.fault.GoalFailure.TheVariants as failures
 use Rattle.goal_text.specs.declared.fault.GoalKind.TheVariants.{NotBool}
 use Rattle.goal_text.specs.declared.items.Items.{Items as Made}
 use Rattle.goal_text.specs.declared.scope.Scope.{Scope}
-use Rattle.goal_text.specs.Read.{Read, ◌>>=◌, Fails, faulty, wanting}
+use Rattle.goal_text.specs.Read.{Read, Fails, faulty}
 use Rattle.goal_text.specs.Items.{env_behind, formula_of}
 use Rattle.goal_text.specs.ItemsIn.{AreItems, items_in}
 use Rattle.goal_text.specs.Scope.{binders_in, consts_in, env_of, types_in}

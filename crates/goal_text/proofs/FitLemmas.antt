@@ -1,11 +1,11 @@
 -- What is read has each loose Bound of its binder's type.
-use Rattle.std.proofs.Common.{◌≡◌, ℕ, zero, suc, ◌+◌, ◌<◌, List, [], ◌∷◌, ◌++◌, Option, Some, None, Result, Ok, Err, Bool, true, false, cond, if◌then◌else◌, map, refl, sym, ap, subst, ◌∙◌, arith}
+use Rattle.std.proofs.Common.{◌≡◌, ℕ, ◌+◌, ◌<◌, List, [], ◌∷◌, ◌++◌, Option, Some, None, Result, Ok, Err, Bool, true, false, if◌then◌else◌, map, refl, sym, subst, ◌∙◌, arith}
 use Rattle.std.specs.Prelude.{bytes_eq, codes, nat_lt, neg_ℤ, ℤ, ◌&&◌}
 use Rattle.std.specs.Map.{lookup}
 use Rattle.std.proofs.lemmas.Option.{none-some, same_Some}
 use Rattle.hol_types.specs.Ty.{Ty, BoolTy}
 use Rattle.hol_types.specs.TypeSubst.{TypeSubst, instance_of}
-use Rattle.hol_terms.specs.Term.{Term, FreeTm, BoundTm, ConstTm, NumTm, AppTm, LamTm, BoundsFit, ty_of}
+use Rattle.hol_terms.specs.Term.{Term, FreeTm, BoundTm, ConstTm, NumTm, AppTm, LamTm, ty_of}
 use Rattle.hol_terms.specs.Constants as hol
 use Rattle.sexp.specs.Tree.{Tree, Trees, AtomTree, QuotedTree, ListTree, no_trees, more_trees}
 use Rattle.goal_text.specs.declared.fault.GoalFault.{GoalFault}
@@ -20,7 +20,7 @@ use Rattle.goal_text.specs.Lexicon.{is_number, is_variable, misfit, misplaced, v
 use Rattle.goal_text.specs.Names.{Env, Binders, bound_to, one_further}
 use Rattle.goal_text.specs.Bounds.{AllFit, FitsAll}
 use Rattle.goal_text.specs.Matching.{covers, instance_by, instance_for, match_parameters}
-use Rattle.goal_text.specs.Operations.{to_the_right, to_the_left, neighbours, all_of, differs, differences, on_two, on_three, minus, meaning, under, under_all}
+use Rattle.goal_text.specs.Operations.{to_the_right, to_the_left, neighbours, all_of, differs, differences, on_two, on_three, minus, meaning, under_all}
 use Rattle.goal_text.specs.Forms.{Form, Applied, Instance, Negative, Operation, Binding, Ascription, Part, Skipped, ReadTerm, Divisor, form_of, inside, parts_of}
 use Rattle.goal_text.specs.Terms.{constant_by, name_by, literal_of, atom_of, divisor_of, applied, apply_all, negative, built, term_of, terms_of}
 
@@ -261,8 +261,8 @@ unfolding atom_of
 fits_atom env at text t h =
     fits_if env.binders (is_number text) _ _ t (λ e. fits_literal env.binders at text t e)
     (λ e. fits_if env.binders (bytes_eq text (codes "true")) _ _ t (λ k. fits_truth env.binders _ _ t k)
-      (λ k. fits_if env.binders (bytes_eq text (codes "false")) _ _ t (λ l. fits_truth env.binders _ _ t l)
-        (λ l. fits_named (bound_to env.binders text) env at text t refl (wanting_ok (is_variable text) _ at _ t l)) k) e) h
+    (λ k. fits_if env.binders (bytes_eq text (codes "false")) _ _ t (λ l. fits_truth env.binders _ _ t l)
+    (λ l. fits_named (bound_to env.binders text) env at text t refl (wanting_ok (is_variable text) _ at _ t l)) k) e) h
 
 fits_divisor : (bs : Binders) (tree : Tree) (t : Term) → divisor_of tree ≡ Ok t → FitsAll bs t 0
 unfolding divisor_of
@@ -274,6 +274,7 @@ fits_divisor bs (ListTree at parts) t h = no_fault _ at t h
 
 mutual
   unfolding term_of terms_of
+
   -- what is read under binders has each loose Bound of its binder's type
   pub term_fits : (env : Env) (tree : Tree) (t : Term) → term_of env tree ≡ Ok t → FitsAll env.binders t 0
   term_fits env (AtomTree at text) t h = fits_atom env at text t h

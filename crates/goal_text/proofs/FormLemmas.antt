@@ -1,17 +1,15 @@
 -- Binding the variables of a binder list.
-use Rattle.std.proofs.Common.{◌≡◌, ℕ, zero, suc, ◌+◌, ◌-◌, List, [], ◌∷◌, ◌++◌, Option, Some, None, Result, Ok, Err, drop, take, refl, sym, ap, subst, ◌∙◌, arith}
-use Rattle.std.specs.List.{AllByRecursion}
+use Rattle.std.proofs.Common.{◌≡◌, ℕ, zero, suc, ◌+◌, ◌-◌, List, [], ◌∷◌, ◌++◌, Some, Ok, Err, drop, take, refl, sym, ap, ◌∙◌, arith}
 use Rattle.hol_types.specs.Ty.{Ty}
-use Rattle.hol_types.specs.TypeStore.{HasType, type_tree}
+use Rattle.hol_types.specs.TypeStore.{type_tree}
 use Rattle.hol_terms.specs.TermStore.{TermStore, Keeps}
-use Rattle.sexp.specs.Tree.{Tree, Trees, AtomTree, QuotedTree, ListTree, no_trees, more_trees}
-use Rattle.goal_text.specs.declared.fault.GoalFault.{GoalFault}
+use Rattle.sexp.specs.Tree.{Tree, Trees, no_trees, more_trees}
 use Rattle.goal_text.specs.declared.fault.GoalFailure.{GoalFailure}
 use Rattle.goal_text.specs.declared.fault.GoalFailure.TheVariants as failures
-use Rattle.goal_text.specs.Read.{Read, ◌>>=◌, Fails}
+use Rattle.goal_text.specs.Read.{Read, Fails}
 use Rattle.goal_text.specs.Names.{Binders, Constructors, Env}
 use Rattle.goal_text.specs.Lexicon.{two_of}
-use Rattle.goal_text.specs.Forms.{Form, Applied, Instance, Negative, Operation, Binding, Ascription, Part, Skipped, binder_of, binders_of, binding, form_of, head_word, inside, parts_of}
+use Rattle.goal_text.specs.Forms.{Part, Skipped, binder_of, binders_of, binding, form_of, head_word, inside, parts_of}
 use Rattle.goal_text.specs.Terms.{terms_of}
 use Rattle.goal_text.specs.declared.form.Head.{Head}
 use Rattle.goal_text.specs.declared.form.Head.TheVariants as heads
@@ -19,7 +17,7 @@ use Rattle.goal_text.specs.declared.scope.Scope.{Scope}
 use Rattle.goal_text.specs.declared.word.Operator.{Operator}
 use Rattle.goal_text.specs.declared.word.Binder.{Binder}
 use Rattle.goal_text.specs.declared.word.Word.TheVariants as words
-use Rattle.goal_text.specs.Scope.{Applies, AreBound, Ascribes, Binds, HasHead, IsOperation, IsScope, KeepsDeclared, binders_in, bound_by, consts_in, env_of, form_at, form_of_operation, one_binder, rest_of, types_in}
+use Rattle.goal_text.specs.Scope.{Applies, AreBound, Ascribes, Binds, IsOperation, IsScope, KeepsDeclared, binders_in, bound_by, consts_in, env_of, form_at, one_binder, rest_of, types_in}
 use Rattle.sexp.specs.Forest.{Kept, tree_at, trees_at, trees_within}
 use Rattle.goal_text.proofs.FitLemmas.{same_Ok}
 use Rattle.goal_text.proofs.ScopeLemmas.{binders_same, constants_same}
@@ -160,7 +158,7 @@ binding_inside s u old new (heads.Binding binder n) h k is others outer =
     let types : types_in new.types ≡ types_in old.types = ap (λ l. types_in l) others.types in
     let consts : consts_in u new.consts ≡ consts_in s old.consts = ap (λ l. consts_in u l) others.consts ∙ constants_same old.consts k is.consts in
     let binders : binders_in u new.binders ≡ binders_in u (take n new.binders) ++ binders_in s old.binders =
-        split_binders u new.binders n ∙ ap (λ l. binders_in u (take n new.binders) ++ binders_in u l) outer ∙ ap (λ l. binders_in u (take n new.binders) ++ l) (binders_same old.binders k is.binders) in
+    split_binders u new.binders n ∙ ap (λ l. binders_in u (take n new.binders) ++ binders_in u l) outer ∙ ap (λ l. binders_in u (take n new.binders) ++ l) (binders_same old.binders k is.binders) in
     λ i. record { types = types i; consts = consts i; binders = binders i }
 binding_inside s u old new (heads.Ascription name declared ty) h k is others outer = absurd h
 

@@ -1,14 +1,14 @@
 -- Items, one after the other, and the whole text.
-use Rattle.std.proofs.Common.{◌≡◌, ◌≢◌, ℕ, List, [], ◌∷◌, Option, Some, None, Result, Ok, Err, length, refl, sym, ap, ◌∙◌}
+use Rattle.std.proofs.Common.{◌≡◌, ◌≢◌, ℕ, List, Ok, Err, length, refl, sym, ap, ◌∙◌}
 use Rattle.sexp.specs.Tree.{Tree, Trees, no_trees, more_trees}
 use Rattle.sexp.specs.TextTrees.{forest_of, unless_long}
 use Rattle.sexp.specs.declared.token.SexpFault.{SexpFault}
 use Rattle.sexp.specs.declared.token.SexpFault.TheVariants as lexical
 use Rattle.goal_text.specs.declared.fault.GoalFailure.{GoalFailure}
 use Rattle.goal_text.specs.declared.fault.GoalFailure.TheVariants as failures
-use Rattle.goal_text.specs.Read.{Read, ◌>>=◌, Fails}
+use Rattle.goal_text.specs.Read.{Read, Fails}
 use Rattle.goal_text.specs.Items.{Items, no_items, item_of, items_of}
-use Rattle.goal_text.specs.GoalRead.{GoalProblem, goal_read, lexical_fault, longest, problem_of, trees_by, trees_of}
+use Rattle.goal_text.specs.GoalRead.{GoalProblem, goal_read, longest, problem_of, trees_by, trees_of}
 use Rattle.goal_text.specs.ItemsIn.{IsLexical, Refuses}
 
 -- ---- the trees of a text

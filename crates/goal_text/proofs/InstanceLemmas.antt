@@ -1,5 +1,5 @@
 -- Which type variables are given types, and the instance of a constant that its arguments give.
-use Rattle.std.proofs.Common.{◌≡◌, Result, ap₂, ℕ, zero, suc, ◌+◌, ◌<◌, ◌≤◌, List, [], ◌∷◌, Some, None, Option, Ok, Bool, true, false, ◌&&◌, is_some, drop, get_or, length, map, refl, sym, ap, subst, ◌∙◌, arith}
+use Rattle.std.proofs.Common.{◌≡◌, Result, ap₂, ℕ, zero, suc, ◌+◌, ◌<◌, List, [], ◌∷◌, Some, None, Ok, Bool, true, false, ◌&&◌, is_some, drop, get_or, length, map, refl, sym, ap, subst, ◌∙◌, arith}
 use Rattle.std.specs.Prelude.{bytes_eq}
 use Rattle.std.specs.Map.{lookup}
 use Rattle.std.specs.List.{AllByRecursion, list_all}
@@ -12,7 +12,7 @@ use Rattle.hol_types.specs.declared.node.TypeNode.TheVariants as nodes
 use Rattle.hol_terms.specs.Term.{Term, ConstTm, ty_of}
 use Rattle.goal_text.specs.declared.fault.GoalKind.TheVariants.{IllTyped, FreeTypeVariable}
 use Rattle.goal_text.specs.declared.fault.GoalFailure.{GoalFailure}
-use Rattle.goal_text.specs.Read.{Read, Gives, ◌>>=◌, faulty, wanting}
+use Rattle.goal_text.specs.Read.{Read, Gives, faulty, wanting}
 use Rattle.goal_text.specs.Forms.{Instance}
 use Rattle.goal_text.specs.Terms.{apply_all, built}
 use Rattle.goal_text.proofs.ReadLemmas.{gives_same}

@@ -1,21 +1,18 @@
 -- Items so far, while their store goes on, and with one item more.
-use Rattle.std.proofs.Common.{◌≡◌, ℕ, List, [], ◌∷◌, ◌++◌, Option, Some, None, Bool, true, map, refl, sym, ap, subst, ◌∙◌, bytes_eq}
+use Rattle.std.proofs.Common.{◌≡◌, ℕ, List, [], ◌∷◌, ◌++◌, Option, Some, None, Bool, refl, sym, ap, subst, ◌∙◌}
 use Rattle.std.specs.Prelude.{IfSome, option_map}
-use Rattle.std.specs.Map.{lookup}
 use Rattle.std.specs.List.{AllByRecursion}
 use Rattle.hol_types.specs.Ty.{Ty}
-use Rattle.hol_types.specs.TypeStore.{HasName, HasType, arity_of, text_of, type_tree}
-use Rattle.hol_terms.specs.Term.{Term}
+use Rattle.hol_types.specs.TypeStore.{HasType, arity_of, text_of, type_tree}
 use Rattle.hol_terms.specs.TermStore.{TermStore, HasTerm, Keeps, term_tree}
 use Rattle.goal_text.specs.declared.items.Items.{Items as Made}
 use Rattle.goal_text.specs.declared.problem.Declared.{Declared}
 use Rattle.goal_text.specs.declared.scope.Constructor.{Constructor}
 use Rattle.goal_text.specs.declared.scope.Constant.{Constant}
-use Rattle.goal_text.specs.Items.{Items, with_type}
+use Rattle.goal_text.specs.Items.{with_type}
 use Rattle.goal_text.specs.ItemsIn.{AreItems, HasDeclared, declared_in, items_in, with_constant}
 use Rattle.goal_text.specs.Matching.{is_ground}
-use Rattle.goal_text.specs.Scope.{AreBound, AreConstants, AreConstructors, AreTerms, IsConstant, IsConstructor, IsNameOf, IsScope, consts_in, terms_at, types_in}
-use Rattle.goal_text.proofs.OperationLemmas.{terms_pushed}
+use Rattle.goal_text.specs.Scope.{AreBound, AreConstants, AreConstructors, AreTerms, IsConstant, IsConstructor, IsNameOf, consts_in, terms_at, types_in}
 use Rattle.goal_text.proofs.ScopeLemmas.{constants_same, scope_kept, terms_kept, terms_same}
 
 declared_kept : {s u : TermStore} (ds : List Declared) → Keeps s u → AllByRecursion (λ d. HasDeclared s d) ds → AllByRecursion (λ d. HasDeclared u d) ds
@@ -142,8 +139,8 @@ module _ (old new : Made) (name : List ℕ) (n ty : ℕ) (ground : Bool) (k : Ke
       let names : types_in new.scope.types ≡ types_in old.scope.types = ap (λ l. types_in l) types in
       let one : List (List ℕ × Ty) → Ty → List (List ℕ × Ty) = λ l t. l ++ (name, t) ∷ [] in
       let said : consts_in new.base new.scope.consts ≡ consts_in old.base old.scope.consts ++ (name, type_tree old.base.types ty) ∷ [] =
-          ap (λ l. consts_in new.base l) consts ∙ consts_more new.base old.scope.consts name (record { name = n; ty = ty; ground = ground }) ∙ ap (λ l. one l (type_tree new.base.types ty)) (constants_same old.scope.consts k is.scope.consts)
-          ∙ ap (one (consts_in old.base old.scope.consts)) (k.type_trees ty there) in
+      ap (λ l. consts_in new.base l) consts ∙ consts_more new.base old.scope.consts name (record { name = n; ty = ty; ground = ground }) ∙ ap (λ l. one l (type_tree new.base.types ty)) (constants_same old.scope.consts k is.scope.consts)
+      ∙ ap (one (consts_in old.base old.scope.consts)) (k.type_trees ty there) in
       let terms : terms_at new.base new.facts.items ≡ terms_at old.base old.facts.items = ap (λ l. terms_at new.base l) facts ∙ terms_same old.facts.items k is.facts in
       let one_goal : option_map (λ t. term_tree new.base t) new.goal ≡ option_map (λ t. term_tree old.base t) old.goal = ap (λ g. option_map (λ t. term_tree new.base t) g) goal ∙ goal_same old.base new.base old.goal k is.goal in
       λ i. record { types = names i; consts = said i; facts = terms i; goal = one_goal i }

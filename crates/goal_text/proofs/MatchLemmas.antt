@@ -12,11 +12,11 @@ use Rattle.hol_types.proofs.TypeLemmas.{eqb_sound, eqb_complete}
 use Rattle.hol_types.specs.TypeSubst.{HasSubst, TypeSubst, subst_tree, instance_of, instances_of, variables_of, variables_of_all}
 use Rattle.hol_types.specs.TypeMatch.{Extends, Gives, Matches, IsLeast, IsNone, NeverIs}
 use Rattle.hol_types.proofs.TyEqLemmas.{text_eq_sound, text_eq_refl, ty_eq_sound, ty_eq_apart}
-use Rattle.hol_types.proofs.MatchLemmas.{extends_refl, extends_trans, matches_kept, least_here}
+use Rattle.hol_types.proofs.MatchLemmas.{extends_trans, matches_kept, least_here}
 use Rattle.hol_terms.specs.Term.{ty_of}
 use Rattle.hol_terms.specs.TermStore.{TermStore, term_tree}
 use Rattle.goal_text.specs.Scope.{AreTerms, terms_at}
-use Rattle.goal_text.specs.Matching.{◌>>?◌, args_of, giving, match_ty, match_tys, match_parameters, is_instance, covers, are_none}
+use Rattle.goal_text.specs.Matching.{◌>>?◌, giving, match_ty, match_tys, match_parameters, is_instance, covers, are_none}
 
 -- the least types with a property, or that none have it
 abbrev pub IsOutcome : (TypeSubst → Type 0) → TypeSubst → Option TypeSubst → Type 0

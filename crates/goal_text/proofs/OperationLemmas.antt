@@ -1,7 +1,6 @@
 -- Operations on terms of their types.
-use Rattle.std.proofs.Common.{◌≡◌, ℕ, zero, suc, ◌+◌, ◌<◌, ◌≤◌, List, [], ◌∷◌, ◌++◌, Bool, true, false, ◌&&◌, map, length, drop, get_or, refl, sym, ap, subst, ◌∙◌, append_assoc, arith}
+use Rattle.std.proofs.Common.{◌≡◌, ℕ, zero, suc, ◌+◌, ◌<◌, ◌≤◌, List, [], ◌∷◌, ◌++◌, Bool, true, false, map, length, drop, get_or, refl, sym, ap, subst, ◌∙◌, append_assoc, arith}
 use Rattle.std.specs.Prelude.{nat_eq}
-use Rattle.std.specs.List.{AllByRecursion, list_all}
 use Rattle.std.proofs.lemmas.List.{drop_more}
 use Rattle.std.proofs.lemmas.Option.{slice_get-get_or, get_or_from_slice_get}
 use Rattle.hol_types.specs.Ty.{Ty, BoolTy, IntTy, FunTy}
@@ -163,9 +162,9 @@ module _ (s now new : TermStore) (k : Keeps s now) (f : ℕ) (function : HasTerm
       let rest = neighbours (apply_two (term_tree s f)) (term_tree s (get_or ts m 0)) (terms_at s (drop (m + 1) ts)) in
       let below : n < length ts = omega (arith, e, h) in
       let one : term_tree new u ≡ apply_two (term_tree s f) (term_tree s (get_or ts n 0)) (term_tree s (get_or ts m 0)) =
-          made ∙ same_op (term_tree now x) (term_tree now y) ∙ ap (λ z. apply_two (term_tree s f) z (term_tree now y)) (same_item n x below is) ∙ ap (apply_two (term_tree s f) (term_tree s (get_or ts n 0))) (same_item m y h at) in
+      made ∙ same_op (term_tree now x) (term_tree now y) ∙ ap (λ z. apply_two (term_tree s f) z (term_tree now y)) (same_item n x below is) ∙ ap (apply_two (term_tree s f) (term_tree s (get_or ts n 0))) (same_item m y h at) in
       let pushed : terms_at new (fs ++ u ∷ []) ≡ terms_at now fs ++ apply_two (term_tree s f) (term_tree s (get_or ts n 0)) (term_tree s (get_or ts m 0)) ∷ [] =
-          terms_pushed new fs u ∙ ap (λ l. l ++ term_tree new u ∷ []) (terms_same fs kept there) ∙ ap (λ z. terms_at now fs ++ z ∷ []) one in
+      terms_pushed new fs u ∙ ap (λ l. l ++ term_tree new u ∷ []) (terms_same fs kept there) ∙ ap (λ z. terms_at now fs ++ z ∷ []) one in
       ap (λ l. l ++ rest) pushed ∙ append_assoc (terms_at now fs) (apply_two (term_tree s f) (term_tree s (get_or ts n 0)) (term_tree s (get_or ts m 0)) ∷ []) rest
       ∙ ap (λ l. terms_at now fs ++ l) (sym (neighbours_step (apply_two (term_tree s f)) s ts n m e h)) ∙ so_far
 
@@ -294,5 +293,5 @@ differences_next s now new k total fs gs ts i all h so_far made =
     let a = term_tree s (get_or ts i 0) in
     let rest = terms_at s (drop (i + 1) ts) in
     let one : terms_at new gs ≡ terms_at now fs ++ differs a rest =
-        sym made ∙ ap (λ x. terms_at now fs ++ differs x (terms_at now (drop (i + 1) ts))) (k.trees (get_or ts i 0) (term_there s ts i all h)) ∙ ap (λ l. terms_at now fs ++ differs a l) (rest_same s now ts (i + 1) k all) in
+    sym made ∙ ap (λ x. terms_at now fs ++ differs x (terms_at now (drop (i + 1) ts))) (k.trees (get_or ts i 0) (term_there s ts i all h)) ∙ ap (λ l. terms_at now fs ++ differs a l) (rest_same s now ts (i + 1) k all) in
     ap (λ l. l ++ differences rest) one ∙ append_assoc (terms_at now fs) (differs a rest) (differences rest) ∙ ap (λ l. terms_at now fs ++ differences l) (sym (terms_from s ts i h)) ∙ so_far

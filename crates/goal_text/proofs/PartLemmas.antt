@@ -1,23 +1,23 @@
 -- Reading the parts of a list of terms one after the other.
-use Rattle.std.proofs.Common.{◌≡◌, ℕ, zero, suc, ◌+◌, List, [], ◌∷◌, ◌++◌, Result, Ok, Err, Bool, true, false, ◌&&◌, if◌then◌else◌, drop, take, length, refl, sym, ap, subst, ◌∙◌, append_assoc, arith}
+use Rattle.std.proofs.Common.{◌≡◌, ℕ, zero, suc, ◌+◌, List, [], ◌∷◌, ◌++◌, Ok, Err, Bool, true, false, ◌&&◌, drop, take, refl, sym, ap, subst, ◌∙◌, append_assoc, arith}
 use Rattle.std.specs.Prelude.{nat_eq}
 use Rattle.std.specs.List.{AllByRecursion}
 use Rattle.std.proofs.lemmas.List.{append-nil}
-use Rattle.hol_types.specs.TypeStore.{HasType, type_tree}
+use Rattle.hol_types.specs.TypeStore.{HasType}
 use Rattle.hol_types.proofs.TypeLemmas.{eqb_sound}
 use Rattle.hol_terms.specs.Term.{Term}
 use Rattle.hol_terms.specs.TermStore.{TermStore, HasTerm, Keeps, term_tree}
-use Rattle.sexp.specs.Tree.{Tree, Trees, AtomTree, QuotedTree, ListTree, no_trees, more_trees}
+use Rattle.sexp.specs.Tree.{Tree, Trees, ListTree, no_trees, more_trees}
 use Rattle.goal_text.specs.declared.fault.GoalFailure.{GoalFailure}
 use Rattle.goal_text.specs.declared.fault.GoalFailure.TheVariants as failures
 use Rattle.goal_text.specs.declared.scope.Scope.{Scope}
 use Rattle.goal_text.specs.declared.form.Head.{Head}
 use Rattle.goal_text.specs.declared.form.Head.TheVariants as heads
 use Rattle.goal_text.specs.Read.{Read, ◌>>=◌, Fails}
-use Rattle.goal_text.specs.Names.{Env, Binders}
-use Rattle.goal_text.specs.Forms.{Form, Applied, Instance, Negative, Operation, Binding, Ascription, Part, Skipped, ReadTerm, Divisor, operands, form_of, inside, parts_of}
+use Rattle.goal_text.specs.Names.{Env}
+use Rattle.goal_text.specs.Forms.{Form, Binding, Part, operands, form_of, inside, parts_of}
 use Rattle.goal_text.specs.Terms.{built, divisor_of, term_of, terms_of}
-use Rattle.goal_text.specs.Scope.{AreTerms, HasHead, IsScope, binders_in, bound_by, form_at, terms_at}
+use Rattle.goal_text.specs.Scope.{AreTerms, HasHead, IsScope, binders_in, form_at, terms_at}
 use Rattle.goal_text.proofs.ScopeLemmas.{terms_same}
 use Rattle.goal_text.proofs.OperationLemmas.{terms_pushed}
 

@@ -1,5 +1,5 @@
 -- The problem that all items say.
-use Rattle.std.proofs.Common.{◌≡◌, ℕ, List, [], ◌∷◌, Option, Some, None, Ok, Err, length, refl, sym, ap, ap₂, subst, ◌∙◌}
+use Rattle.std.proofs.Common.{◌≡◌, ℕ, List, Option, Some, None, Ok, Err, length, refl, sym, ap, ap₂, subst, ◌∙◌}
 use Rattle.std.specs.Prelude.{IfSome, option_map}
 use Rattle.std.specs.List.{AllByRecursion}
 use Rattle.hol_terms.specs.TermStore.{HasTerm, term_tree}
@@ -23,13 +23,16 @@ module _ (made : Made) (n : ℕ) (is : AreItems made) (consts : List Declared) (
 
   pub finished : IsFinished made n (Ok problem)
   finished =
-      let said : GoalProblem = record { types = (items_in made).types; consts = (items_in made).consts; facts = (items_in made).facts; goal = term_tree made.base t } in
-      (said, ap (λ g. problem_by (option_map (λ u. term_tree made.base u) g) (items_in made) n) goal, record {
-        types = λ name arity h. constructor_said made.base made.scope.types name arity is.scope.types h;
-        consts = ap (λ l. declared_in made.base l) listed ∙ is.consts;
-        facts = ap (λ l. terms_at made.base l) given;
-        goal = refl;
-      })
+      let said : GoalProblem = record { types = (items_in made).types; consts = (items_in made).consts; facts = (items_in made).facts; goal = term_tree made.base t } in (
+        said,
+        ap (λ g. problem_by (option_map (λ u. term_tree made.base u) g) (items_in made) n) goal,
+        record {
+          types = λ name arity h. constructor_said made.base made.scope.types name arity is.scope.types h;
+          consts = ap (λ l. declared_in made.base l) listed ∙ is.consts;
+          facts = ap (λ l. terms_at made.base l) given;
+          goal = refl;
+        },
+      )
 
   pub is_problem : IsProblem problem
   is_problem = record {

@@ -2,9 +2,9 @@
 use Rattle.std.proofs.Common.{◌≡◌, ℕ, List, [], ◌∷◌, refl, sym, ap, ◌∙◌}
 use Rattle.std.specs.List.{AllByRecursion}
 use Rattle.hol_types.specs.Ty.{Ty}
-use Rattle.hol_types.specs.TypeStore.{HasType, type_tree}
+use Rattle.hol_types.specs.TypeStore.{HasType}
 use Rattle.hol_terms.specs.Term.{Term}
-use Rattle.hol_terms.specs.TermStore.{TermStore, HasTerm, Keeps, term_tree}
+use Rattle.hol_terms.specs.TermStore.{TermStore, Keeps}
 use Rattle.goal_text.specs.declared.scope.Scope.{Scope}
 use Rattle.goal_text.specs.declared.scope.Constructor.{Constructor}
 use Rattle.goal_text.specs.declared.scope.Constant.{Constant}

@@ -1,23 +1,16 @@
 -- Reading one term.
-use Rattle.std.proofs.Common.{◌≡◌, ◌⊎◌, inl, inr, ℕ, ◌+◌, Bool, List, [], ◌∷◌, ◌++◌, Result, Ok, Err, drop, length, take, refl, sym, ap, ap₂, subst, ◌∙◌}
+use Rattle.std.proofs.Common.{◌≡◌, ℕ, ◌+◌, Bool, List, [], ◌∷◌, ◌++◌, Ok, drop, length, take, sym, ap, ap₂, subst, ◌∙◌}
 use Rattle.std.proofs.lemmas.List.{length-append}
 use Rattle.hol_terms.specs.Term.{Term}
 use Rattle.hol_terms.specs.TermStore.{TermStore, Keeps, term_tree}
-use Rattle.sexp.specs.Tree.{Tree, Trees, AtomTree, QuotedTree, ListTree, no_trees, place}
-use Rattle.sexp.specs.Forest.{Tells}
-use Rattle.sexp.specs.declared.rec.RecKind.TheVariants as kinds
-use Rattle.goal_text.specs.declared.fault.GoalFailure.{GoalFailure}
-use Rattle.goal_text.specs.declared.fault.GoalFailure.TheVariants as failures
-use Rattle.goal_text.specs.declared.fault.GoalKind.TheVariants.{Syntax}
+use Rattle.sexp.specs.Tree.{Trees}
 use Rattle.goal_text.specs.declared.scope.Scope.{Scope}
-use Rattle.goal_text.specs.declared.form.Head.{Head}
-use Rattle.goal_text.specs.Read.{Read, Fails, Gives, faulty}
+use Rattle.goal_text.specs.Read.{Read}
 use Rattle.goal_text.specs.Names.{Env}
-use Rattle.goal_text.specs.Lexicon.{IsLeaf}
 use Rattle.goal_text.specs.Bounds.{AllFit}
 use Rattle.goal_text.specs.Forms.{Part, operands}
-use Rattle.goal_text.specs.Terms.{atom_of, term_of, terms_of}
-use Rattle.goal_text.specs.Scope.{AreTerms, IsScope, terms_at, KeepsDeclared, binders_in, bound_by, env_of}
+use Rattle.goal_text.specs.Terms.{terms_of}
+use Rattle.goal_text.specs.Scope.{AreTerms, IsScope, terms_at, binders_in, env_of}
 use Rattle.goal_text.proofs.FitLemmas.{fit_front, terms_fit}
 use Rattle.goal_text.proofs.FormLemmas.{split_binders}
 use Rattle.goal_text.proofs.PartLemmas.{binders_taken, term_pushed, with_terms}

@@ -1,10 +1,9 @@
 -- Types made of types, and the reading of lists one part after the other.
-use Rattle.std.proofs.Common.{◌≡◌, ℕ, ◌+◌, List, [], ◌∷◌, ◌++◌, Result, Ok, Err, length, refl, sym, ap, ◌∙◌}
-use Rattle.std.specs.List.{AllByRecursion}
+use Rattle.std.proofs.Common.{◌≡◌, ℕ, List, [], ◌∷◌, ◌++◌, Ok, Err, refl, sym, ap, ◌∙◌}
 use Rattle.hol_types.specs.Ty.{Ty, Tys, FunTy, no_types, more_types}
 use Rattle.hol_types.specs.TypeStore.{HasType, type_tree, trees_at}
 use Rattle.hol_terms.specs.TermStore.{TermStore, Keeps}
-use Rattle.sexp.specs.Tree.{Tree, Trees, AtomTree, QuotedTree, ListTree, no_trees, more_trees, count}
+use Rattle.sexp.specs.Tree.{Tree, Trees, ListTree, no_trees, more_trees}
 use Rattle.goal_text.specs.declared.fault.GoalFailure.{GoalFailure}
 use Rattle.goal_text.specs.declared.fault.GoalFailure.TheVariants as failures
 use Rattle.goal_text.specs.Read.{Read, ◌>>=◌, Fails}

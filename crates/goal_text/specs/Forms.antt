@@ -1,5 +1,5 @@
 -- What a list of a term is on entry: its head, its number of parts and its binder list.
-use Rattle.std.specs.Prelude.{ℕ, List, [], ◌∷◌, ◌++◌, Option, Some, None, Result, Ok, Err, Bool, true, false, ◌&&◌, if◌then◌else◌, nat_lt, bytes_eq}
+use Rattle.std.specs.Prelude.{ℕ, List, [], ◌∷◌, ◌++◌, Option, Some, None, Ok, Bool, true, false, ◌&&◌, if◌then◌else◌, nat_lt, bytes_eq}
 use Rattle.std.specs.Map.{lookup}
 use Rattle.hol_types.specs.Ty.{Ty}
 use Rattle.sexp.specs.Tree.{Tree, Trees, AtomTree, QuotedTree, ListTree, no_trees, more_trees, count, place}
@@ -11,7 +11,7 @@ use Rattle.goal_text.specs.declared.word.Operator.TheVariants.{Not, And, Or, Imp
 use Rattle.goal_text.specs.declared.word.Binder.{Binder}
 use Rattle.goal_text.specs.Read.{Read, ◌>>=◌, faulty, wanting}
 use Rattle.goal_text.specs.Lexicon.{is_number, word_of, misplaced, two_of, name_of, variable_of}
-use Rattle.goal_text.specs.Names.{Env, Constructors, Constants, Binders, bound_to, is_nothing}
+use Rattle.goal_text.specs.Names.{Env, Constructors, Binders, bound_to, is_nothing}
 use Rattle.goal_text.specs.Types.{type_of}
 use Rattle.goal_text.specs.Matching.{is_ground}
 use Rattle.goal_text.specs.Operations.{takes}

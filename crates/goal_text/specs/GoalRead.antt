@@ -6,7 +6,6 @@ use Rattle.sexp.specs.TextTrees.{forest_of, unless_long}
 use Rattle.sexp.specs.declared.token.SexpFault.{SexpFault}
 use Rattle.sexp.specs.declared.token.SexpFault.TheVariants as lexical
 use Rattle.goal_text.specs.declared.fault.GoalKind.TheVariants.{TooLong, BadByte, Unopened, TooDeep, Unclosed, NoGoal}
-use Rattle.goal_text.specs.declared.fault.GoalKind.{GoalKind}
 use Rattle.goal_text.specs.declared.fault.GoalFault.{GoalFault}
 use Rattle.goal_text.specs.Read.{Read, ◌>>=◌, faulty}
 use Rattle.goal_text.specs.Names.{Constructors, Constants}

@@ -1,11 +1,11 @@
 -- Items: declarations, facts and the goal.
-use Rattle.std.specs.Prelude.{ℕ, List, [], ◌∷◌, ◌++◌, Option, Some, None, Result, Ok, Err, Bool, ◌&&◌, if◌then◌else◌, nat_lt, bytes_eq, codes}
+use Rattle.std.specs.Prelude.{ℕ, List, [], ◌∷◌, ◌++◌, Option, Some, None, Ok, ◌&&◌, if◌then◌else◌, nat_lt, bytes_eq, codes}
 use Rattle.std.specs.Map.{lookup}
 use Rattle.hol_types.specs.Ty.{BoolTy}
 use Rattle.hol_types.specs.TyEq.{ty_eq}
 use Rattle.hol_terms.specs.Term.{Term, ty_of}
 use Rattle.sexp.specs.Tree.{Tree, Trees, AtomTree, QuotedTree, ListTree, no_trees, more_trees}
-use Rattle.goal_text.specs.declared.fault.GoalKind.TheVariants.{Syntax, DeclaredTwice, NotBool, TwoGoals, NoGoal}
+use Rattle.goal_text.specs.declared.fault.GoalKind.TheVariants.{Syntax, DeclaredTwice, NotBool, TwoGoals}
 use Rattle.goal_text.specs.Read.{Read, ◌>>=◌, faulty, wanting}
 use Rattle.goal_text.specs.Lexicon.{is_number, value_of, misplaced, one_of, two_of, name_of}
 use Rattle.goal_text.specs.Names.{Constructors, Constants, Env, is_nothing}

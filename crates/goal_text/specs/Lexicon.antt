@@ -1,5 +1,5 @@
 -- Names, variables and numbers, by their bytes, and the words of the grammar.
-use Rattle.std.specs.Prelude.{ℕ, ◌+◌, ◌-◌, ◌*◌, ◌^◌, List, [], ◌∷◌, length, Bool, true, false, ◌&&◌, ◌||◌, not, nat_lt, nat_eq, bytes_eq, codes, Option, Some, None, if◌then◌else◌, Ok}
+use Rattle.std.specs.Prelude.{ℕ, ◌+◌, ◌-◌, ◌*◌, ◌^◌, List, [], ◌∷◌, length, Bool, false, ◌&&◌, ◌||◌, not, nat_lt, nat_eq, bytes_eq, codes, Option, Some, None, if◌then◌else◌, Ok}
 use Rattle.std.specs.List.{list_all, list_any}
 use Rattle.hol_terms.specs.BuiltIn.{is_built_in}
 use Rattle.sexp.specs.Tree.{Tree, Trees, AtomTree, QuotedTree, ListTree, no_trees, more_trees, place}

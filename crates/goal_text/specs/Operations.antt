@@ -1,5 +1,5 @@
 -- The operations of the grammar: how many parts each takes, of which types, and the term that it is read as.
-use Rattle.std.specs.Prelude.{ℕ, List, [], ◌∷◌, ◌++◌, map, Bool, true, false, ◌&&◌, nat_lt, nat_eq}
+use Rattle.std.specs.Prelude.{ℕ, List, [], ◌∷◌, ◌++◌, map, Bool, true, ◌&&◌, nat_lt, nat_eq}
 use Rattle.std.specs.List.{list_all}
 use Rattle.hol_types.specs.Ty.{Ty, BoolTy, IntTy}
 use Rattle.hol_types.specs.TyEq.{ty_eq}

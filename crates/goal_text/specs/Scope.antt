@@ -1,8 +1,8 @@
 -- What the numbers of a scope stand for.
-use Rattle.std.specs.Prelude.{◌≡◌, ℕ, ◌+◌, ◌-◌, List, [], ◌∷◌, map, length, Option, Some, None, Bool, true, false, IsTrue, Ok, take}
+use Rattle.std.specs.Prelude.{◌≡◌, ℕ, List, [], ◌∷◌, map, Some, Bool, false, IsTrue, Ok, take}
 use Rattle.std.specs.List.{AllByRecursion}
-use Rattle.hol_types.specs.Ty.{Ty, BoolTy, IntTy}
-use Rattle.hol_types.specs.TypeStore.{TypeStore, HasName, HasType, arity_of, text_of, type_tree}
+use Rattle.hol_types.specs.Ty.{Ty}
+use Rattle.hol_types.specs.TypeStore.{HasName, HasType, arity_of, text_of, type_tree}
 use Rattle.hol_terms.specs.Term.{Term, ty_of}
 use Rattle.hol_terms.specs.TermStore.{TermStore, HasTerm, term_tree}
 use Rattle.goal_text.specs.declared.scope.Scope.{Scope}

@@ -1,5 +1,5 @@
 -- The terms that trees are read as.
-use Rattle.std.specs.Prelude.{ℕ, ◌^◌, neg_ℤ, List, [], ◌∷◌, map, Option, Some, None, Result, Ok, Err, Bool, true, false, ◌&&◌, if◌then◌else◌, nat_lt, bytes_eq, codes}
+use Rattle.std.specs.Prelude.{ℕ, ◌^◌, neg_ℤ, List, [], ◌∷◌, map, Option, Some, None, Ok, Bool, true, false, ◌&&◌, if◌then◌else◌, nat_lt, bytes_eq, codes}
 use Rattle.std.specs.Map.{lookup}
 use Rattle.hol_types.specs.Ty.{Ty, BoolTy, IntTy, VarTy, FunTy, ConsTy}
 use Rattle.hol_types.specs.TyEq.{ty_eq}

@@ -1,5 +1,5 @@
 -- The types that trees are read as.
-use Rattle.std.specs.Prelude.{ℕ, ◌∷◌, List, [], Result, Ok, Err, Option, Some, None, Bool, if◌then◌else◌, nat_lt, nat_eq, bytes_eq, codes}
+use Rattle.std.specs.Prelude.{ℕ, List, Ok, Option, Some, None, if◌then◌else◌, nat_lt, nat_eq, bytes_eq, codes}
 use Rattle.std.specs.Map.{lookup}
 use Rattle.hol_types.specs.Ty.{Ty, Tys, BoolTy, IntTy, VarTy, FunTy, ConsTy, no_types, more_types}
 use Rattle.sexp.specs.Tree.{Tree, Trees, AtomTree, QuotedTree, ListTree, no_trees, more_trees, count}

@@ -110,11 +110,7 @@ impl Binders {
     {
         match self.stack.pop() {
             Some(bound) => {
-                let Bound {
-                    name,
-                    ty,
-                    hidden,
-                } = bound;
+                let Bound { name, ty, hidden } = bound;
                 match self.newest.set(name, hidden) {
                     Ok(()) => Some(ty),
                     Err(_) => unreachable!(),

@@ -10,9 +10,9 @@ ghost use Rattle.goal_text.specs.Read.{Gives};
 ghost use Rattle.goal_text.specs.Scope.{AreBound, AreTerms, HasHead, IsScope, KeepsDeclared, binders_in, bound_by, form_at, terms_at};
 ghost use Rattle.goal_text.specs.Terms as terms;
 
+use crate::constants::quantifier;
 use crate::fault::{GoalFailure, GoalKind, refuse};
 use crate::form::Head;
-use crate::constants::quantifier;
 use crate::made::{apply, typed};
 use crate::matching::{instance_for, is_instance};
 use crate::operations::{fits, is_bool, meaning};
@@ -167,12 +167,7 @@ fn fits_body(base: &Base, binder: Binder, body: TermId) -> bool
 
 /// A body under one variable of the type.
 #[tactic(auto, using(hol_terms::proofs::KeepsLemmas::keeps_trans))]
-fn under(
-    base: &mut Base,
-    binder: Binder,
-    ty: TypeId,
-    body: TermId,
-) -> Result<TermId, GoalFailure>
+fn under(base: &mut Base, binder: Binder, ty: TypeId, body: TermId) -> Result<TermId, GoalFailure>
     requires ty { HasType base.old.types ty }
     requires body { HasTerm base.old body }
     requires bounds { BoundsFit (term_tree base.old body) 0 (type_tree base.old.types ty) }

@@ -45,13 +45,7 @@ pub struct Entered {
 
 /// An application, whose function stands at `first`, with arguments from `second` on.
 #[tactic(auto, unfolding(crate::specs::Forms::application, crate::specs::Scope::env_of))]
-fn application(
-    base: &Base,
-    scope: &Scope,
-    forest: &Forest,
-    first: u32,
-    second: u32,
-) -> Entered
+fn application(base: &Base, scope: &Scope, forest: &Forest, first: u32, second: u32) -> Entered
     requires scope { IsScope base.now scope.now }
     requires tree { HasTree forest.now first }
     ensures form { form_at base.now scope.now result.head ≡ forms.application (env_of base.now scope.now) (tree_at forest.now first) }
@@ -125,12 +119,7 @@ fn operation(
 
 /// Binds the variable of an entry `(x T)`.
 #[tactic(auto, using(hol_terms::proofs::KeepsLemmas::keeps_trans), unfolding(crate::specs::Forms::binder_of))]
-fn bind(
-    base: &mut Base,
-    scope: &mut Scope,
-    forest: &Forest,
-    i: u32,
-) -> Result<(), GoalFailure>
+fn bind(base: &mut Base, scope: &mut Scope, forest: &Forest, i: u32) -> Result<(), GoalFailure>
     requires scope { IsScope base.old scope.old }
     requires tree { HasTree forest.now i }
     ensures read { Gives (λ _. binders_in base.new (take 1 scope.new.binders)) result (one_binder (forms.binder_of (types_in scope.old.types) (tree_at forest.now i))) }

@@ -45,7 +45,13 @@ fn arity_at(forest: &Forest, i: u32) -> Result<u32, GoalFailure>
         return misplaced(forest, i);
     }
     match value(text) {
-        Some(n) => { if n < 9 { Ok(n as u32) } else { misplaced(forest, i) } }
+        Some(n) => {
+            if n < 9 {
+                Ok(n as u32)
+            } else {
+                misplaced(forest, i)
+            }
+        }
         None => misplaced(forest, i),
     }
 }
@@ -64,10 +70,13 @@ fn declare_type(items: &mut Items, name: &[u8], arity: u32) -> Result<(), GoalFa
         return Err(GoalFailure::Memory);
     }
     let own = Vec::from_slice(items.base.allocator(), name)?;
-    items.scope.types.declare(own, Constructor {
-        name: number,
-        arity,
-    })?;
+    items.scope.types.declare(
+        own,
+        Constructor {
+            name: number,
+            arity,
+        },
+    )?;
     Ok(())
 }
 
@@ -106,11 +115,14 @@ fn declare_constant(items: &mut Items, name: &[u8], ty: TypeId) -> Result<(), Go
     let number = items.base.name(name)?;
     let own = Vec::from_slice(items.base.allocator(), name)?;
     let ground = is_ground(&items.base, ty);
-    items.scope.consts.declare(own, Constant {
-        name: number,
-        ty,
-        ground,
-    })?;
+    items.scope.consts.declare(
+        own,
+        Constant {
+            name: number,
+            ty,
+            ground,
+        },
+    )?;
     items.consts.push(Declared { name: number, ty })?;
     Ok(())
 }
@@ -140,12 +152,7 @@ fn const_item(
 
 /// A term of type Bool.
 #[tactic(auto, unfolding(crate::specs::Items::formula_of))]
-fn formula_at(
-    items: &mut Items,
-    forest: &Forest,
-    at: u32,
-    i: u32,
-) -> Result<TermId, GoalFailure>
+fn formula_at(items: &mut Items, forest: &Forest, at: u32, i: u32) -> Result<TermId, GoalFailure>
     requires items { AreItems items.old }
     requires tree { HasTree forest.now i }
     ensures read { Gives (term_tree items.new.base) result (forms.formula_of (items_in items.old) at (tree_at forest.now i)) }
@@ -254,12 +261,7 @@ fn item_at(items: &mut Items, forest: &Forest, i: u32) -> Result<(), GoalFailure
 }
 
 /// The items in the order of the text.
-pub fn items_at(
-    items: &mut Items,
-    forest: &Forest,
-    first: u32,
-    end: u32,
-) -> Result<(), GoalFailure>
+pub fn items_at(items: &mut Items, forest: &Forest, first: u32, end: u32) -> Result<(), GoalFailure>
     requires items { AreItems items.old }
     requires run { IsRun forest.now first end }
     ensures read { Gives (λ _. items_in items.new) result (forms.items_of (items_in items.old) (trees_at forest.now first end)) }

@@ -38,11 +38,7 @@ pub fn is_instance(base: &Base, pattern: TypeId, t: TypeId) -> Result<bool, Allo
 }
 
 /// The least types under which the parameters of a type are those of the terms.
-fn match_parameters(
-    base: &Base,
-    ty: TypeId,
-    terms: &[TermId],
-) -> Result<Option<Subst>, AllocError>
+fn match_parameters(base: &Base, ty: TypeId, terms: &[TermId]) -> Result<Option<Subst>, AllocError>
     requires ty { HasType base.now.types ty }
     requires terms { AreTerms base.now terms.now }
     ensures there { IfOk result (λ found. IfSome found (HasSubst base.now.types)) }

@@ -22,12 +22,7 @@ use hol_types::{TypeId, TypeNode};
 
 /// A function of two arguments that it takes, applied to them.
 #[tactic(auto, using(hol_terms::proofs::KeepsLemmas::keeps_trans))]
-fn apply_two(
-    base: &mut Base,
-    f: TermId,
-    a: TermId,
-    b: TermId,
-) -> Result<TermId, GoalFailure>
+fn apply_two(base: &mut Base, f: TermId, a: TermId, b: TermId) -> Result<TermId, GoalFailure>
     requires function { HasTerm base.old f }
     requires first { HasTerm base.old a }
     requires second { HasTerm base.old b }
@@ -168,11 +163,7 @@ pub fn fits(base: &Base, operator: Operator, terms: &[TermId]) -> bool
 
 /// A connective between each two neighbours of formulas, nested to the right.
 #[tactic(auto, using(hol_terms::proofs::KeepsLemmas::keeps_trans))]
-fn to_the_right(
-    base: &mut Base,
-    f: TermId,
-    parts: &[TermId],
-) -> Result<TermId, GoalFailure>
+fn to_the_right(base: &mut Base, f: TermId, parts: &[TermId]) -> Result<TermId, GoalFailure>
     requires function { HasTyped base.old (FunTy2 BoolTy BoolTy BoolTy) f }
     requires parts { AreTyped base.old BoolTy parts.now }
     requires some { 0 < length parts.now }
@@ -192,11 +183,7 @@ fn to_the_right(
 
 /// An operation between each two neighbours of integers, nested to the left.
 #[tactic(auto, using(hol_terms::proofs::KeepsLemmas::keeps_trans))]
-fn to_the_left(
-    base: &mut Base,
-    f: TermId,
-    parts: &[TermId],
-) -> Result<TermId, GoalFailure>
+fn to_the_left(base: &mut Base, f: TermId, parts: &[TermId]) -> Result<TermId, GoalFailure>
     requires function { HasTyped base.old (FunTy2 IntTy IntTy IntTy) f }
     requires parts { AreTyped base.old IntTy parts.now }
     requires some { 0 < length parts.now }
@@ -215,11 +202,7 @@ fn to_the_left(
 
 /// A relation of each two neighbours.
 #[tactic(auto, using(hol_terms::proofs::KeepsLemmas::keeps_trans))]
-fn neighbours(
-    base: &mut Base,
-    f: TermId,
-    parts: &[TermId],
-) -> Result<Vec<TermId>, GoalFailure>
+fn neighbours(base: &mut Base, f: TermId, parts: &[TermId]) -> Result<Vec<TermId>, GoalFailure>
     requires some { 0 < length parts.now }
     requires first { HasTerm base.old (slice_index_or parts.now 0 0) }
     requires parts { AreTyped base.old (ty_of (term_tree base.old (slice_index_or parts.now 0 0))) parts.now }
@@ -258,11 +241,7 @@ fn all_of(base: &mut Base, formulas: &[TermId]) -> Result<TermId, GoalFailure>
 
 /// The conjunction of a relation of each two neighbours.
 #[tactic(auto, using(hol_terms::proofs::KeepsLemmas::keeps_trans))]
-fn chain(
-    base: &mut Base,
-    f: TermId,
-    parts: &[TermId],
-) -> Result<TermId, GoalFailure>
+fn chain(base: &mut Base, f: TermId, parts: &[TermId]) -> Result<TermId, GoalFailure>
     requires some { 0 < length parts.now }
     requires first { HasTerm base.old (slice_index_or parts.now 0 0) }
     requires parts { AreTyped base.old (ty_of (term_tree base.old (slice_index_or parts.now 0 0))) parts.now }
@@ -278,12 +257,7 @@ fn chain(
 
 /// That two terms of a type differ, given equality at the type.
 #[tactic(auto, using(hol_terms::proofs::KeepsLemmas::keeps_trans))]
-fn unequal(
-    base: &mut Base,
-    equality: TermId,
-    a: TermId,
-    b: TermId,
-) -> Result<TermId, GoalFailure>
+fn unequal(base: &mut Base, equality: TermId, a: TermId, b: TermId) -> Result<TermId, GoalFailure>
     requires first { HasTerm base.old a }
     requires second { HasTyped base.old (ty_of (term_tree base.old a)) b }
     requires equality { IsNumberOf base.old equality (hol.eq_tm (ty_of (term_tree base.old a))) }
@@ -549,11 +523,7 @@ fn negated(base: &mut Base, parts: &[TermId]) -> Result<TermId, GoalFailure>
 }
 
 /// The term that an operation on terms of its types is read as.
-pub fn meaning(
-    base: &mut Base,
-    operator: Operator,
-    parts: &[TermId],
-) -> Result<TermId, GoalFailure>
+pub fn meaning(base: &mut Base, operator: Operator, parts: &[TermId]) -> Result<TermId, GoalFailure>
     requires some { 0 < length parts.now }
     requires parts { AreTerms base.old parts.now }
     requires fits { operations.fits operator (map ty_of (terms_at base.old parts.now)) ≡ true }

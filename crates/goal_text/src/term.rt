@@ -35,12 +35,7 @@ fn literal(base: &mut Base, at: u32, text: &[u8]) -> Result<TermId, GoalFailure>
 
 /// The innermost variable of a name, or the constant.
 #[tactic(auto, unfolding(crate::specs::Scope::env_of))]
-fn named(
-    base: &mut Base,
-    scope: &Scope,
-    at: u32,
-    text: &[u8],
-) -> Result<TermId, GoalFailure>
+fn named(base: &mut Base, scope: &Scope, at: u32, text: &[u8]) -> Result<TermId, GoalFailure>
     requires scope { IsScope base.old scope.now }
     ensures read { Gives (term_tree base.new) result (terms.name_by (bound_to (env_of base.old scope.now).binders text.now) (env_of base.old scope.now) at text.now) }
     ensures there { IfOk result (HasTerm base.new) }
@@ -63,12 +58,7 @@ fn named(
 
 /// The term that an atom is read as.
 #[tactic(auto, unfolding(crate::specs::Terms::atom_of))]
-fn atom(
-    base: &mut Base,
-    scope: &Scope,
-    at: u32,
-    text: &[u8],
-) -> Result<TermId, GoalFailure>
+fn atom(base: &mut Base, scope: &Scope, at: u32, text: &[u8]) -> Result<TermId, GoalFailure>
     requires scope { IsScope base.old scope.now }
     ensures read { Gives (term_tree base.new) result (terms.atom_of (env_of base.old scope.now) at text.now) }
     ensures there { IfOk result (HasTerm base.new) }

@@ -20,7 +20,11 @@ fn is_too_large(text: &[u8]) -> bool
 fn misfit_of(text: &[u8]) -> GoalKind
     ensures { result ≡ (if lexicon.is_too_large text.now then GoalKind.Number else GoalKind.Syntax) }
 {
-    if is_too_large(text) { GoalKind::Number } else { GoalKind::Syntax }
+    if is_too_large(text) {
+        GoalKind::Number
+    } else {
+        GoalKind::Syntax
+    }
 }
 
 /// What is wrong with a tree where the grammar allows none of its form.
@@ -126,7 +130,13 @@ pub fn name_at(forest: &Forest, i: u32) -> Result<&[u8], GoalFailure>
     ensures { Gives (λ text. text.now) result (lexicon.name_of (tree_at forest.now i)) }
 {
     match forest.atom(i) {
-        Some(text) => { if is_name(text) { Ok(text) } else { misplaced(forest, i) } }
+        Some(text) => {
+            if is_name(text) {
+                Ok(text)
+            } else {
+                misplaced(forest, i)
+            }
+        }
         None => misplaced(forest, i),
     }
 }
@@ -138,7 +148,13 @@ pub fn variable_at(forest: &Forest, i: u32) -> Result<&[u8], GoalFailure>
     ensures { Gives (λ text. text.now) result (lexicon.variable_of (tree_at forest.now i)) }
 {
     match forest.atom(i) {
-        Some(text) => { if is_variable(text) { Ok(text) } else { misplaced(forest, i) } }
+        Some(text) => {
+            if is_variable(text) {
+                Ok(text)
+            } else {
+                misplaced(forest, i)
+            }
+        }
         None => misplaced(forest, i),
     }
 }

@@ -1,4 +1,4 @@
-use Rattle.std.proofs.Common.{◌≡◌, ◌∙◌, sym, ap}
+use Rattle.std.proofs.Common.{◌∙◌, sym, ap}
 use Rattle.goal_text.specs.Terms as terms
 use Rattle.std.proofs.lemmas.Result.{err_from_is_err_and}
 use Rattle.hol_terms.specs.TermStore.{term_tree}

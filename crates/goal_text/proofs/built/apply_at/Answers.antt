@@ -1,4 +1,4 @@
-use Rattle.std.proofs.Common.{◌∙◌, refl, sym, ap, Ok}
+use Rattle.std.proofs.Common.{◌∙◌, sym, ap, Ok}
 use Rattle.hol_terms.specs.TermStore.{term_tree}
 use Rattle.goal_text.proofs.BuiltLemmas.{apply_fits, apply_not}
 use Rattle.goal_text.proofs.built.apply_at.Goals as goal

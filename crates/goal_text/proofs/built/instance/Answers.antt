@@ -1,8 +1,7 @@
-use Rattle.std.proofs.Common.{◌≡◌, ◌∙◌, sym, ap}
+use Rattle.std.proofs.Common.{◌∙◌, sym, ap}
 use Rattle.std.proofs.lemmas.Result.{err_from_is_err_and}
 use Rattle.hol_types.specs.TypeStore.{text_of, type_tree}
 use Rattle.hol_terms.specs.TermStore.{term_tree}
-use Rattle.goal_text.specs.Forms as forms
 use Rattle.goal_text.specs.Terms as terms
 use Rattle.goal_text.specs.Scope.{terms_at}
 use Rattle.goal_text.proofs.InstanceLemmas.{built_instance}

@@ -1,6 +1,6 @@
 use Rattle.std.proofs.Common.{◌≡◌, ◌∙◌, ◌+◌, ◌-◌, sym, subst, arith, take, true}
 use Rattle.hol_types.specs.TypeStore.{type_tree}
-use Rattle.hol_terms.specs.Term.{Term, ty_of}
+use Rattle.hol_terms.specs.Term.{ty_of}
 use Rattle.hol_terms.specs.TermStore.{term_tree}
 use Rattle.hol_terms.proofs.KeepsLemmas.{keeps_trans}
 use Rattle.goal_text.specs.Bounds.{FitsAll}

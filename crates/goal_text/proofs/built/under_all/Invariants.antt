@@ -1,4 +1,4 @@
-use Rattle.std.proofs.Common.{◌≡◌, ◌≤◌, drop, take, true}
+use Rattle.std.proofs.Common.{◌≡◌, drop, take, true}
 use Rattle.hol_terms.specs.Term.{ty_of}
 use Rattle.hol_terms.specs.TermStore.{HasTerm, Keeps, term_tree}
 use Rattle.goal_text.specs.Bounds.{FitsAll}

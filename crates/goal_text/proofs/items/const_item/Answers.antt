@@ -1,4 +1,4 @@
-use Rattle.std.proofs.Common.{◌≡◌, ◌∙◌, sym, ap, bytes_eq, true, false, Ok}
+use Rattle.std.proofs.Common.{◌∙◌, sym, ap, true, false, Ok}
 use Rattle.std.proofs.lemmas.Result.{err_from_is_err_and}
 use Rattle.hol_types.specs.TypeStore.{type_tree}
 use Rattle.goal_text.specs.Items.{Items}

@@ -1,4 +1,4 @@
-use Rattle.std.proofs.Common.{◌≡◌, ◌∙◌, ◌++◌, ◌∷◌, [], List, ℕ, None, Ok, sym, ap, bytes_eq}
+use Rattle.std.proofs.Common.{◌∙◌, ◌++◌, ◌∷◌, [], Ok, sym, ap, bytes_eq}
 use Rattle.std.specs.Map.{lookup}
 use Rattle.goal_text.specs.declared.items.Items.{Items as Made}
 use Rattle.goal_text.specs.declared.scope.Constant.{Constant}

@@ -1,4 +1,4 @@
-use Rattle.std.proofs.Common.{◌≡◌, ◌∙◌, sym}
+use Rattle.std.proofs.Common.{◌∙◌, sym}
 use Rattle.std.proofs.lemmas.Result.{err_from_is_err_and}
 use Rattle.sexp.specs.Forest.{tree_at}
 use Rattle.goal_text.proofs.FactLemmas.{formula_fails, formula_read, formula_refused, items_as_before, items_on}

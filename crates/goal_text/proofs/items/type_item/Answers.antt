@@ -1,4 +1,4 @@
-use Rattle.std.proofs.Common.{◌≡◌, ◌∙◌, sym, bytes_eq, true, false}
+use Rattle.std.proofs.Common.{sym, true, false}
 use Rattle.std.proofs.lemmas.Result.{err_from_is_err_and}
 use Rattle.goal_text.specs.ItemsIn.{items_in}
 use Rattle.goal_text.proofs.DeclareLemmas.{type_fails, type_read, type_twice}

@@ -28,7 +28,7 @@ returns-clause-read c =
     let found = rw c.in-Some.is at c.in_ok-s.ensures.found in
     let test : matching.covers (subst_tree types c.in-Some.s) (type_tree types c.args.ty) ≡ true = ap (λ l. matching.covers (subst_tree types l) (type_tree types c.args.ty)) (sym c.as_slice.ensures) ∙ sym c.covers.ensures ∙ c.if-not-covers.false in
     instance_given (λ t. term_tree c.typed.new.base t) c.typed.result c.args.at c.args.head (text_of types c.args.name) (text_of made c.args.name) (type_tree types c.args.ty) (type_tree made c.in_ok-instance.instance)
-      (map ty_of (terms_at c.args.base.now c.args.terms.now)) found.0 (subst_tree types c.in-Some.s) found.1 found.2 found.3 test (c.in_ok-instance.ensures.keeps.texts c.args.name c.requires.name) c.in_ok-instance.ensures.tree c.typed.ensures.read
+    (map ty_of (terms_at c.args.base.now c.args.terms.now)) found.0 (subst_tree types c.in-Some.s) found.1 found.2 found.3 test (c.in_ok-instance.ensures.keeps.texts c.args.name c.requires.name) c.in_ok-instance.ensures.tree c.typed.ensures.read
 
 pub returns-clause-keeps : goal.returns-clause-keeps
 returns-clause-keeps c = keeps_trans c.in_ok-instance.ensures.keeps c.typed.ensures.keeps

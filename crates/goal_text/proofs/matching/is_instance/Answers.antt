@@ -1,4 +1,4 @@
-use Rattle.std.proofs.Common.{◌∙◌, subst, Option}
+use Rattle.std.proofs.Common.{◌∙◌, subst}
 use Rattle.std.specs.Prelude.{IfSome}
 use Rattle.hol_types.specs.TypeStore.{type_tree}
 use Rattle.hol_types.specs.TypeSubst.{subst_tree}

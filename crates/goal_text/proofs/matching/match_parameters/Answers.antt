@@ -1,4 +1,4 @@
-use Rattle.std.proofs.Common.{◌≡◌, ◌∙◌, ap, map, refl, subst, arith, Some}
+use Rattle.std.proofs.Common.{◌≡◌, ◌∙◌, ap, map, subst, arith}
 use Rattle.std.specs.Prelude.{IfSome}
 use Rattle.hol_types.specs.Ty.{FunTy}
 use Rattle.hol_types.specs.TypeStore.{PartsBelow, tree_of, type_tree}

@@ -1,4 +1,4 @@
-use Rattle.std.proofs.Common.{◌≡◌, ◌∙◌, ◌<◌, ap, sym, length, rules, Ok}
+use Rattle.std.proofs.Common.{◌∙◌, ◌<◌, ap, sym, length, rules, Ok}
 use Rattle.hol_types.specs.Ty.{BoolTy}
 use Rattle.hol_terms.specs.Constants as hol
 use Rattle.hol_terms.specs.Term.{ConstTm}

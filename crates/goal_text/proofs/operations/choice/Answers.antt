@@ -1,7 +1,7 @@
-use Rattle.std.proofs.Common.{◌≡◌, ◌∙◌, ◌<◌, length, sym, ap, subst, arith, get_or, Ok}
-use Rattle.hol_types.specs.Ty.{Ty, BoolTy}
+use Rattle.std.proofs.Common.{◌≡◌, ◌∙◌, ◌<◌, length, sym, ap, subst, arith, get_or}
+use Rattle.hol_types.specs.Ty.{BoolTy}
 use Rattle.hol_types.specs.TypeStore.{type_tree}
-use Rattle.hol_terms.specs.Term.{Term, ty_of}
+use Rattle.hol_terms.specs.Term.{ty_of}
 use Rattle.hol_terms.specs.TermStore.{term_tree}
 use Rattle.goal_text.specs.Scope.{HasTyped}
 use Rattle.goal_text.proofs.OperationLemmas.{choice_of, choice_typed, item_at}

@@ -1,4 +1,4 @@
-use Rattle.std.proofs.Common.{◌≡◌, sym}
+use Rattle.std.proofs.Common.{sym}
 use Rattle.hol_types.specs.Ty.{BoolTy, FunTy}
 use Rattle.hol_types.specs.TypeStore.{type_tree}
 use Rattle.hol_terms.specs.Constants as hol

@@ -1,7 +1,7 @@
 use Rattle.std.proofs.Common.{◌≡◌, ◌∙◌, ap, subst, sym, arith, get_or}
 use Rattle.hol_types.specs.Ty.{BoolTy}
 use Rattle.hol_terms.specs.Constants as hol
-use Rattle.hol_terms.specs.Term.{Term, ty_of}
+use Rattle.hol_terms.specs.Term.{ty_of}
 use Rattle.hol_terms.specs.TermStore.{term_tree}
 use Rattle.hol_terms.proofs.KeepsLemmas.{keeps_trans}
 use Rattle.goal_text.specs.Scope.{HasTyped}
@@ -31,9 +31,9 @@ loop-j-preserved c =
     let all = typed_terms s _ ts c.requires.parts in
     let a = term_tree s (get_or ts c.args.i 0) in
     let made : term_tree new c.in_ok-t.t ≡ hol.negation (hol.equation (ty_of a) a (term_tree s (get_or ts c.loop-j.j 0))) =
-        sym (same_Ok _ _ c.in_ok-t.ensures.read)
-        ∙ ap (λ x. hol.negation (hol.equation (ty_of x) x (term_tree now c.index-parts-j.result))) (item_same s now inv.keeps ts all c.args.i c.index-parts-i.result c.requires.below c.index-parts-i.is)
-        ∙ ap (λ x. hol.negation (hol.equation (ty_of a) a x)) (item_same s now inv.keeps ts all c.loop-j.j c.index-parts-j.result c.loop-j-test.true c.index-parts-j.is) in
+    sym (same_Ok _ _ c.in_ok-t.ensures.read)
+    ∙ ap (λ x. hol.negation (hol.equation (ty_of x) x (term_tree now c.index-parts-j.result))) (item_same s now inv.keeps ts all c.args.i c.index-parts-i.result c.requires.below c.index-parts-i.is)
+    ∙ ap (λ x. hol.negation (hol.equation (ty_of a) a x)) (item_same s now inv.keeps ts all c.loop-j.j c.index-parts-j.result c.loop-j-test.true c.index-parts-j.is) in
     record {
       within = omega (arith, c.loop-j-test.true);
       typed = rw c.in_ok-push.ensures.items (all_typed_pushed new BoolTy fs c.in_ok-t.t (all_typed_kept BoolTy fs k inv.typed) c.in_ok-t.ensures.there);

@@ -1,4 +1,4 @@
-use Rattle.std.proofs.Common.{◌≡◌, ◌+◌, ◌++◌, ◌-◌, ◌<◌, ◌≤◌, drop, get_or, length}
+use Rattle.std.proofs.Common.{◌≡◌, ◌+◌, ◌++◌, ◌-◌, ◌≤◌, drop, get_or, length}
 use Rattle.hol_types.specs.Ty.{BoolTy}
 use Rattle.hol_terms.specs.TermStore.{Keeps, term_tree}
 use Rattle.goal_text.specs.Operations as operations

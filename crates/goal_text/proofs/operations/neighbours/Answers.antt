@@ -1,7 +1,5 @@
-use Rattle.std.proofs.Common.{◌≡◌, ◌+◌, ◌-◌, ◌<◌, length, sym, ap, arith, rules}
+use Rattle.std.proofs.Common.{◌≡◌, ◌+◌, ◌-◌, ◌<◌, length, sym, arith}
 use Rattle.hol_types.specs.Ty.{BoolTy}
-use Rattle.hol_terms.specs.Term.{ty_of}
-use Rattle.hol_terms.specs.TermStore.{term_tree}
 use Rattle.hol_terms.proofs.KeepsLemmas.{keeps_trans}
 use Rattle.goal_text.proofs.FitLemmas.{same_Ok}
 use Rattle.goal_text.proofs.OperationLemmas.{all_typed_kept, all_typed_pushed, fits_two, neighbours_next, part_typed, two_typed, typed_kept, typed_terms}
@@ -41,5 +39,5 @@ loop-i-preserved c =
       typed = rw c.in_ok-push.ensures.items (all_typed_pushed new BoolTy fs c.in_ok-t.t (all_typed_kept BoolTy fs k inv.typed) is);
       keeps = keeps_trans inv.keeps k;
       read = rw (c.in_ok-push.ensures.items, previous) (neighbours_next s now new inv.keeps c.args.f c.requires.function.there c.args.parts.now (typed_terms s _ c.args.parts.now c.requires.parts) k _ fs (c.loop-i.i - 1) c.loop-i.i c.index-parts-previous.result c.index-parts-i.result c.in_ok-t.t
-        (typed_terms now BoolTy fs inv.typed) next c.loop-i-test.true c.index-parts-previous.is c.index-parts-i.is inv.read made);
+          (typed_terms now BoolTy fs inv.typed) next c.loop-i-test.true c.index-parts-previous.is c.index-parts-i.is inv.read made);
     }

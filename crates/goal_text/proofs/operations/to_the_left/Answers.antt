@@ -1,4 +1,4 @@
-use Rattle.std.proofs.Common.{◌≡◌, sym, arith}
+use Rattle.std.proofs.Common.{sym, arith}
 use Rattle.hol_types.specs.Ty.{IntTy}
 use Rattle.hol_terms.proofs.KeepsLemmas.{keeps_trans}
 use Rattle.goal_text.proofs.FitLemmas.{same_Ok}

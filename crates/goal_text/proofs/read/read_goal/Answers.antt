@@ -1,8 +1,6 @@
-use Rattle.std.proofs.Common.{◌≡◌, ◌∙◌, sym, ap, subst, length, ℕ, Ok}
+use Rattle.std.proofs.Common.{◌∙◌, sym}
 use Rattle.std.proofs.lemmas.Result.{err_from_is_err_and}
-use Rattle.goal_text.specs.GoalRead.{problem_of}
 use Rattle.goal_text.specs.ItemsIn.{items_in}
-use Rattle.goal_text.specs.Read.{Fails}
 use Rattle.goal_text.proofs.GoalLemmas.{goal_found, goal_without_goal, goal_without_items, goal_without_trees}
 use Rattle.goal_text.proofs.ProblemLemmas.{fails_from_none, from_none}
 use Rattle.goal_text.proofs.read.read_goal.Goals as goal

@@ -1,4 +1,4 @@
-use Rattle.std.proofs.Common.{◌≡◌, ◌∙◌, sym, ap, rules, bytes_eq}
+use Rattle.std.proofs.Common.{◌∙◌, sym, ap, rules, bytes_eq}
 use Rattle.std.specs.Map.{lookup}
 use Rattle.goal_text.specs.Hiding.{newest_by}
 use Rattle.goal_text.proofs.HidingLemmas.{bound_keeps}

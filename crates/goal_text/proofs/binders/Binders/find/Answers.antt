@@ -1,6 +1,6 @@
 use Rattle.std.proofs.Common.{◌≡◌, ◌∙◌, Some, None, length, refl, sym, ap, arith}
 use Rattle.goal_text.specs.Hiding.{newest_by}
-use Rattle.goal_text.proofs.HidingLemmas.{found_below, found_within, within}
+use Rattle.goal_text.proofs.HidingLemmas.{found_below, found_within}
 use Rattle.goal_text.proofs.binders.Binders.find.Goals as goal
 
 pub overflow_sub-result : goal.overflow_sub-result

@@ -1,6 +1,3 @@
-use Rattle.std.proofs.Common.{◌≡◌, List, [], ◌<◌, ◌^◌, length, reverse, subst, sym, refl, rules}
-use Rattle.goal_text.specs.declared.binders.Bound.{Bound}
-use Rattle.goal_text.specs.Hiding.{Hide, IsNewest, spot_of}
 use Rattle.goal_text.proofs.HidingLemmas.{none_bound}
 use Rattle.goal_text.proofs.binders.Binders.new.Goals as goal
 

@@ -1,4 +1,4 @@
-use Rattle.std.proofs.Common.{◌≡◌, ◌∙◌, ap, sym, bytes_eq, Some, cond}
+use Rattle.std.proofs.Common.{◌∙◌, ap, sym, bytes_eq, Some, cond}
 use Rattle.std.specs.Map.{lookup}
 use Rattle.std.proofs.lemmas.Result.{err_from_is_err_and}
 use Rattle.goal_text.proofs.NameLemmas.{lookup_seen, lookup_set, seen}
