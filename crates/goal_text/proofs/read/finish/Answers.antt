@@ -1,0 +1,5 @@
+use Rattle.goal_text.proofs.ProblemLemmas.{finished}
+use Rattle.goal_text.proofs.read.finish.Goals as goal
+
+pub returns-in-Some-clause-read : goal.returns-in-Some-clause-read
+returns-in-Some-clause-read c = finished c.args.items c.args.n c.requires c.new.result c.new-in-Some.result c.in-Some.goal c.new.ensures c.new-in-Some.ensures c.in-Some.is

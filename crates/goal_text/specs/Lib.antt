@@ -1,0 +1,14 @@
+pub mod Read
+pub mod Lexicon
+pub mod Names
+pub mod Types
+pub mod Matching
+pub mod Operations
+pub mod Forms
+pub mod Terms
+pub mod Items
+pub mod GoalRead
+pub mod Scope
+pub mod Hiding
+pub mod Bounds
+pub mod ItemsIn
