@@ -5,3 +5,5 @@ pub mod ConstantLemmas
 pub mod OccursLemmas
 pub mod UnchangedLemmas
 pub mod FoundLemmas
+pub mod TypesFoundLemmas
+pub mod UnchangedTypes

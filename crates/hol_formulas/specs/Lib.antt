@@ -1,3 +1,4 @@
 pub mod Constants
 pub mod Formulas
 pub mod Found
+pub mod FoundTypes

@@ -9,5 +9,6 @@ pub mod binder;
 pub mod equation;
 pub mod formula;
 pub mod occurs;
+pub mod type_variables;
 pub mod unchanged;
 pub mod variables;

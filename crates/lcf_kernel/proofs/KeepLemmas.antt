@@ -20,7 +20,9 @@ use Rattle.hol_terms.proofs.KeepsLemmas.{keeps_refl, keeps_trans}
 use Rattle.lcf_kernel.specs.declared.thm.Made.TheVariants.{Rule}
 use Rattle.lcf_kernel.specs.KernelState.{KernelState, records_of, HasThm, thm_at, is_adopted, is_opened, adopted_of, opened_of, with_thm, AreHyps, IsThm, IsKernel, IsInside, KeepsRecords, KeepsAll}
 use Rattle.hol_formulas.specs.Found.{AreVariables}
+use Rattle.hol_formulas.specs.FoundTypes.{type_variables_in, AreTypeVariables}
 use Rattle.hol_formulas.proofs.FoundLemmas.{variables_keep}
+use Rattle.hol_formulas.proofs.UnchangedTypes.{type_variables_keep}
 use Rattle.hol_formulas.specs.Formulas.{trees, HasFormula, HasFormulas, IsContext}
 use Rattle.hol_formulas.proofs.GrowthLemmas.{trees_keep, constants_keep, formula_keeps, formulas_keep, context_keeps}
 
@@ -53,6 +55,7 @@ module _ (k : KernelState) (u : TermStore) (base : Mark) (keeps : Keeps k.store 
     same = is.same;
     variables = variables_keep k.store u keeps k.variables k.context is.kernel.context.formulas is.variables;
     variables_rise = is.variables_rise;
+    type_variables = type_variables_keep k.store u keeps k.type_variables k.context is.kernel.context.formulas is.type_variables;
   }
 
 -- ---- records
@@ -62,8 +65,8 @@ pub thm_is : (k : KernelState) → IsKernel k → (t : ℕ) → HasThm k t → I
 thm_is k is t h = is.thms t (thm_at k t) (slice_get-get_or k.thms t _ h)
 
 -- a kernel whose terms alone have changed
-pub keeps_all_terms : (old new : KernelState) → IsKernel old → Keeps old.store new.store → new.base ≡ old.base → new.constants ≡ old.constants → new.facts ≡ old.facts → new.context ≡ old.context → new.variables ≡ old.variables → new.thms ≡ old.thms → KeepsAll old new
-keeps_all_terms old new is keeps same_base same_constants same_facts same_context same_variables same_thms = record {
+pub keeps_all_terms : (old new : KernelState) → IsKernel old → Keeps old.store new.store → new.base ≡ old.base → new.constants ≡ old.constants → new.facts ≡ old.facts → new.context ≡ old.context → new.variables ≡ old.variables → new.type_variables ≡ old.type_variables → new.thms ≡ old.thms → KeepsAll old new
+keeps_all_terms old new is keeps same_base same_constants same_facts same_context same_variables same_types same_thms = record {
   records = record {
     store = keeps;
     base = same_base;
@@ -71,6 +74,7 @@ keeps_all_terms old new is keeps same_base same_constants same_facts same_contex
     facts = same_facts;
     context = same_context;
     variables = same_variables;
+    type_variables = same_types;
     fact_trees = ap (λ ts. trees new.store ts) same_facts ∙ trees_keep old.store new.store keeps old.facts is.facts;
     context_trees = ap (λ ts. trees new.store ts) same_context ∙ trees_keep old.store new.store keeps old.context is.context.formulas;
     has = λ t h. subst (λ ts. t < length ts) (sym same_thms) h;
@@ -87,7 +91,7 @@ keeps_all_terms old new is keeps same_base same_constants same_facts same_contex
 
 pub keeps_all_refl : (k : KernelState) → Keeps k.store k.store → KeepsAll k k
 keeps_all_refl k keeps = record {
-  records = record { store = keeps; base = refl; constants = refl; facts = refl; context = refl; variables = refl; fact_trees = refl; context_trees = refl; has = λ t h. h; thms = λ t h. refl; concls = λ t h. refl; hyps = λ t h. refl };
+  records = record { store = keeps; base = refl; constants = refl; facts = refl; context = refl; variables = refl; type_variables = refl; fact_trees = refl; context_trees = refl; has = λ t h. h; thms = λ t h. refl; concls = λ t h. refl; hyps = λ t h. refl };
   adopted = refl;
   opened = refl;
 }
@@ -100,6 +104,7 @@ keeps_records_trans a b c keeps f g = record {
   facts = g.facts ∙ f.facts;
   context = g.context ∙ f.context;
   variables = g.variables ∙ f.variables;
+  type_variables = g.type_variables ∙ f.type_variables;
   fact_trees = g.fact_trees ∙ f.fact_trees;
   context_trees = g.context_trees ∙ f.context_trees;
   has = λ t h. g.has t (f.has t h);
@@ -119,7 +124,7 @@ module _ (k : KernelState) (r : Thm) where
   kernel_with is thm = record { facts = is.facts; context = is.context; thms = λ t q h. each is thm t q (slice_get-push k.thms r t q h) }
 
   pub inside_with : (c : Constants) (ordered : List ℕ) → IsInside k c ordered → IsThm k.store k.facts k.context r → IsInside (with_thm k r) c ordered
-  inside_with c ordered is thm = record { kernel = kernel_with is.kernel thm; constants = is.constants; rises = is.rises; same = is.same; variables = is.variables; variables_rise = is.variables_rise }
+  inside_with c ordered is thm = record { kernel = kernel_with is.kernel thm; constants = is.constants; rises = is.rises; same = is.same; variables = is.variables; variables_rise = is.variables_rise; type_variables = is.type_variables }
 
   kept_at : (t : ℕ) → HasThm k t → thm_at (with_thm k r) t ≡ thm_at k t
   kept_at t h = get_or-append k.thms (r ∷ []) _ t h
@@ -138,6 +143,7 @@ module _ (k : KernelState) (r : Thm) where
     facts = refl;
     context = refl;
     variables = refl;
+    type_variables = refl;
     fact_trees = refl;
     context_trees = refl;
     has = λ t h. omega (arith, h, length-append k.thms (r ∷ []));
@@ -154,9 +160,9 @@ module _ (k : KernelState) (r : Thm) where
 
 -- ---- the first kernel
 
-pub inside_new : (base u : TermStore) → Keeps base u → (m : Mark) (facts context ordered vars : List ℕ) (c : Constants) → HasFormulas base facts → IsContext base context → AreConstants u c → Rises ordered → SameIds ordered context → Rises vars → AreVariables base vars (trees base context)
-    → IsInside (record { store = u; base = m; constants = c; facts = facts; context = context; variables = vars; thms = [] }) c ordered
-inside_new base u keeps m facts context ordered vars c fs cs are rises same vars_rise vars_are = record {
+pub inside_new : (base u : TermStore) → Keeps base u → (m : Mark) (facts context ordered vars types : List ℕ) (c : Constants) → HasFormulas base facts → IsContext base context → AreConstants u c → Rises ordered → SameIds ordered context → Rises vars → AreVariables base vars (trees base context) → AreTypeVariables base.types types (type_variables_in (trees base context))
+    → IsInside (record { store = u; base = m; constants = c; facts = facts; context = context; variables = vars; type_variables = types; thms = [] }) c ordered
+inside_new base u keeps m facts context ordered vars types c fs cs are rises same vars_rise vars_are types_are = record {
   kernel = record {
     facts = formulas_keep base u keeps facts fs;
     context = context_keeps base u keeps context cs;
@@ -167,11 +173,12 @@ inside_new base u keeps m facts context ordered vars c fs cs are rises same vars
   same = same;
   variables = variables_keep base u keeps vars context cs.formulas vars_are;
   variables_rise = vars_rise;
+  type_variables = type_variables_keep base u keeps types context cs.formulas types_are;
 }
 
 -- a kernel whose terms alone have changed, as the calls of the trait say it
 pub keeps_all_rest : (old new : KernelState) → IsKernel old → Keeps old.store new.store → records_of new ≡ records_of old → KeepsAll old new
-keeps_all_rest old new is keeps same = keeps_all_terms old new is keeps (ap (λ (r : Records). r.base) same) (ap (λ (r : Records). r.constants) same) (ap (λ (r : Records). r.facts) same) (ap (λ (r : Records). r.context) same) (ap (λ (r : Records). r.variables) same) (ap (λ (r : Records). r.thms) same)
+keeps_all_rest old new is keeps same = keeps_all_terms old new is keeps (ap (λ (r : Records). r.base) same) (ap (λ (r : Records). r.constants) same) (ap (λ (r : Records). r.facts) same) (ap (λ (r : Records). r.context) same) (ap (λ (r : Records). r.variables) same) (ap (λ (r : Records). r.type_variables) same) (ap (λ (r : Records). r.thms) same)
 
 pub keeps_all_trans : {a b c : KernelState} → KeepsAll a b → KeepsAll b c → KeepsAll a c
 keeps_all_trans {a} {b} {c} f g = record {

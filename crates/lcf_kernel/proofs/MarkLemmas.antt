@@ -8,6 +8,7 @@ use Rattle.lcf_kernel.specs.declared.mark.KernelMark.{KernelMark}
 use Rattle.lcf_kernel.specs.declared.thm.Thm.{Thm}
 use Rattle.hol_formulas.specs.Constants.{AreConstants}
 use Rattle.hol_formulas.specs.Found.{AreVariables}
+use Rattle.hol_formulas.specs.FoundTypes.{type_variables_in, AreTypeVariables}
 use Rattle.lcf_kernel.specs.Hyps.{Rises, SameIds}
 use Rattle.lcf_kernel.specs.KernelState.{KernelState, IsKernel, IsInside, HasThm, thm_at, context_of, KeepsRecords}
 use Rattle.lcf_kernel.specs.Marks.{MayReset, cut, mark_of}
@@ -30,6 +31,7 @@ cut_kept {k} {l} {m} keeps may =
     let facts = keeps.facts in
     let context = keeps.context in
     let variables = keeps.variables in
+    let type_variables = keeps.type_variables in
     let fits : m.thms ≤ length l.thms = below m.thms may.thms in
     let thms = take_same l.thms k.thms _ m.thms fits may.thms (λ i h. keeps.thms i (omega (arith, h, may.thms))) in
     cc
@@ -52,6 +54,7 @@ may_reset_kept {k} {l} {m} keeps may =
       thms = fits;
       constants = rw (keeps.store.back m.store may.store.fits, keeps.constants) may.constants;
       variables = rw (keeps.store.back m.store may.store.fits, keeps.variables, keeps.context) may.variables;
+      type_variables = rw (keeps.store.back m.store may.store.fits, keeps.type_variables, keeps.context) may.type_variables;
       kernel = subst (λ (j : KernelState). IsKernel j) (sym same) may.kernel;
     }
   where
@@ -60,13 +63,13 @@ may_reset_kept {k} {l} {m} keeps may =
     below (suc n) h = let there : n < length l.thms = keeps.has n (omega arith) in omega arith
 
 -- the mark of a kernel as it is
-pub may_reset_now : (k : KernelState) → IsKernel k → AreConstants k.store k.constants → AreVariables k.store k.variables (context_of k) → (m : KernelMark) → terms.MayReset m.store (record { store = k.store; base = k.base }) → terms.cut m.store k.store ≡ k.store → m.thms ≡ length k.thms
+pub may_reset_now : (k : KernelState) → IsKernel k → AreConstants k.store k.constants → AreVariables k.store k.variables (context_of k) → AreTypeVariables k.store.types k.type_variables (type_variables_in (context_of k)) → (m : KernelMark) → terms.MayReset m.store (record { store = k.store; base = k.base }) → terms.cut m.store k.store ≡ k.store → m.thms ≡ length k.thms
     → (cut m k ≡ k) × MayReset m k
-may_reset_now k is are vars m store whole thms =
+may_reset_now k is are vars types m store whole thms =
     let front : take m.thms k.thms ≡ k.thms = take_all m.thms k.thms (omega arith) in
     let same : cut m k ≡ k = ap₂ (λ s ts. record k { store = s; thms = ts }) whole front in
-    (same, record { store = store; thms = omega arith; constants = rw whole are; variables = rw whole vars; kernel = subst (λ (j : KernelState). IsKernel j) (sym same) is })
+    (same, record { store = store; thms = omega arith; constants = rw whole are; variables = rw whole vars; type_variables = rw whole types; kernel = subst (λ (j : KernelState). IsKernel j) (sym same) is })
 
 -- the kernel that was, inside
 pub inside_cut : (k : KernelState) (ordered : List ℕ) (m : KernelMark) → IsInside k k.constants ordered → MayReset m k → IsInside (cut m k) k.constants ordered
-inside_cut k ordered m is may = record { kernel = may.kernel; constants = may.constants; rises = is.rises; same = is.same; variables = may.variables; variables_rise = is.variables_rise }
+inside_cut k ordered m is may = record { kernel = may.kernel; constants = may.constants; rises = is.rises; same = is.same; variables = may.variables; variables_rise = is.variables_rise; type_variables = may.type_variables }

@@ -10,6 +10,7 @@ use Rattle.hol_terms.specs.Derivable.{Derivable}
 use Rattle.lcf_kernel.specs.Hyps.{Rises, SameIds}
 use Rattle.hol_formulas.specs.Constants.{AreConstants}
 use Rattle.hol_formulas.specs.Found.{AreVariables}
+use Rattle.hol_formulas.specs.FoundTypes.{type_variables_in, AreTypeVariables}
 use Rattle.hol_formulas.specs.Formulas.{trees, HasFormula, HasFormulas, IsContext}
 use Rattle.hol_formulas.specs.declared.formula.Constants.{Constants}
 use Rattle.lcf_kernel.specs.declared.kernel.Records.{Records}
@@ -30,12 +31,14 @@ pub record KernelState : Type 0 where
   pub context : List ℕ
   -- the numbers of the context's free variables
   pub variables : List ℕ
+  -- the numbers of the types that are the context's type variables
+  pub type_variables : List ℕ
   -- the records, in the order in which they were made
   pub thms : List Thm
 
 -- what it holds beside the terms
 abbrev pub records_of : KernelState → Records
-records_of k = record { base = k.base; constants = k.constants; facts = k.facts; context = k.context; variables = k.variables; thms = k.thms }
+records_of k = record { base = k.base; constants = k.constants; facts = k.facts; context = k.context; variables = k.variables; type_variables = k.type_variables; thms = k.thms }
 
 -- ---- records
 
@@ -119,7 +122,7 @@ pub record IsKernel (k : KernelState) : Type 0 where
   pub context : IsContext k.store k.context
   pub thms : (t : ℕ) (r : Thm) → slice_get k.thms t ≡ Some r → IsThm k.store k.facts k.context r
 
--- a kernel with the numbers of its constants, its context in rising order, and the context's free variables too
+-- a kernel with the numbers of its constants, its context in rising order, and the context's free variables and type variables too
 pub record IsInside (k : KernelState) (numbers : Constants) (ordered : List ℕ) : Type 0 where
   pub kernel : IsKernel k
   pub constants : AreConstants k.store numbers
@@ -127,6 +130,7 @@ pub record IsInside (k : KernelState) (numbers : Constants) (ordered : List ℕ)
   pub same : SameIds ordered k.context
   pub variables : AreVariables k.store k.variables (context_of k)
   pub variables_rise : Rises k.variables
+  pub type_variables : AreTypeVariables k.store.types k.type_variables (type_variables_in (context_of k))
 
 -- ---- how a kernel goes on
 
@@ -138,6 +142,7 @@ pub record KeepsRecords (old new : KernelState) : Type 0 where
   pub facts : new.facts ≡ old.facts
   pub context : new.context ≡ old.context
   pub variables : new.variables ≡ old.variables
+  pub type_variables : new.type_variables ≡ old.type_variables
   pub fact_trees : facts_of new ≡ facts_of old
   pub context_trees : context_of new ≡ context_of old
   -- each record is still there

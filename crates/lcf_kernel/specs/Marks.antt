@@ -4,6 +4,7 @@ use Rattle.hol_terms.specs.TermStore as terms
 use Rattle.hol_formulas.specs.Constants.{AreConstants}
 use Rattle.hol_formulas.specs.Formulas.{trees}
 use Rattle.hol_formulas.specs.Found.{AreVariables}
+use Rattle.hol_formulas.specs.FoundTypes.{type_variables_in, AreTypeVariables}
 use Rattle.lcf_kernel.specs.KernelState.{KernelState, IsKernel}
 use Rattle.lcf_kernel.specs.declared.mark.KernelMark.{KernelMark}
 
@@ -21,4 +22,5 @@ pub record MayReset (m : KernelMark) (k : KernelState) : Type 0 where
   pub thms : m.thms ≤ length k.thms
   pub constants : AreConstants (terms.cut m.store k.store) k.constants
   pub variables : AreVariables (terms.cut m.store k.store) k.variables (trees (terms.cut m.store k.store) k.context)
+  pub type_variables : AreTypeVariables (terms.cut m.store k.store).types k.type_variables (type_variables_in (trees (terms.cut m.store k.store) k.context))
   pub kernel : IsKernel (cut m k)

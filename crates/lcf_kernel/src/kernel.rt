@@ -8,6 +8,7 @@ ghost use Rattle.hol_terms.specs.Formula.{IsFormula};
 ghost use Rattle.hol_terms.specs.Derivable.{Derivable};
 ghost use Rattle.hol_formulas.specs.Constants.{AreConstants};
 ghost use Rattle.hol_formulas.specs.Found.{AreVariables};
+ghost use Rattle.hol_formulas.specs.FoundTypes.{type_variables_in, AreTypeVariables};
 ghost use Rattle.hol_formulas.specs.Formulas.{trees, HasFormula, HasFormulas, IsContext};
 ghost use Rattle.lcf_kernel.specs.KernelState.{KernelState, HasThm, thm_at, concl_of, hyps_of, bare_of, facts_of, context_of, all_hyps_of, adopted_of, opened_of, with_thm, AreHyps, IsThm, IsKernel, KeepsRecords, KeepsAll, IsOutside, GivesHyps};
 ghost use Rattle.lcf_kernel.specs.Hyps.{Rises, SameIds};
@@ -17,6 +18,7 @@ use crate::hyps::{copied, in_order, outside};
 use crate::mark::KernelMark;
 use crate::thm::{Made, Thm, ThmId};
 use hol_formulas::formula::Constants;
+use hol_formulas::type_variables::type_variables_of;
 use hol_formulas::variables::variables_of;
 use hol_terms::{Frozen, Mark, Node, Store, TermFault, TermId, Terms};
 use hol_types::{List, NameId, Subst, TypeFault, TypeId, TypeInstances, TypeNode};
@@ -35,6 +37,8 @@ pub struct Kernel<'b> {
     ordered: List<TermId>,
     /// The ids of the context's free variables in rising order, each once.
     variables: List<TermId>,
+    /// The ids of the types that are the context's type variables.
+    type_variables: List<TypeId>,
     thms: Vec<Thm>,
     alloc: Global,
 }
@@ -52,6 +56,8 @@ pub struct Records {
     pub context: List<TermId>,
     /// The free variables of the context.
     pub variables: List<TermId>,
+    /// The type variables of the context.
+    pub type_variables: List<TypeId>,
     /// The records, in the order in which they were made.
     pub thms: List<Thm>,
 }
@@ -61,9 +67,9 @@ impl<'b> Model for Kernel<'b> {
 
     ghost Value = { KernelState };
 
-    ghost view = { λ k. record { store = k.store.store; base = k.store.base; constants = k.constants; facts = k.facts; context = k.context; variables = k.variables; thms = k.thms.items } };
+    ghost view = { λ k. record { store = k.store.store; base = k.store.base; constants = k.constants; facts = k.facts; context = k.context; variables = k.variables; type_variables = k.type_variables; thms = k.thms.items } };
 
-    ghost invariant = { λ k. IsInside (record { store = k.store.store; base = k.store.base; constants = k.constants; facts = k.facts; context = k.context; variables = k.variables; thms = k.thms.items }) k.constants k.ordered };
+    ghost invariant = { λ k. IsInside (record { store = k.store.store; base = k.store.base; constants = k.constants; facts = k.facts; context = k.context; variables = k.variables; type_variables = k.type_variables; thms = k.thms.items }) k.constants k.ordered };
 }
 
 impl<'b> Kernel<'b> {
@@ -84,6 +90,7 @@ impl<'b> Kernel<'b> {
     {
         let mut store = Store::over(alloc, base);
         let variables = variables_in_order(&store, context)?;
+        let type_variables = type_variables_in_list(&store, context)?;
         let constants = Constants::new(&mut store)?;
         let ordered = in_order(alloc, context)?;
         let facts = copied(alloc, facts)?;
@@ -96,6 +103,7 @@ impl<'b> Kernel<'b> {
             context,
             ordered,
             variables,
+            type_variables,
             thms,
             alloc,
         })
@@ -266,6 +274,14 @@ impl<'b> Kernel<'b> {
         self.variables.as_slice()
     }
 
+    /// The type variables of the context.
+    pub(crate) fn type_variables(&self) -> &[TypeId]
+        ensures are { AreTypeVariables self.now.store.types result.now (type_variables_in (context_of self.now)) }
+        ensures lawful { IsKernel self.now }
+    {
+        self.type_variables.as_slice()
+    }
+
     /// Makes each record of a kernel.
     fn add(&mut self, thm: Thm) -> Result<ThmId, AllocError>
         requires { IsThm self.old.store self.old.facts self.old.context thm }
@@ -311,6 +327,18 @@ fn variables_in_order(store: &Store<'_>, context: &[TermId]) -> Result<List<Term
     let found = variables_of(store, context)?;
     let c = in_order(store.allocator(), found.as_slice())?;
     Ok(c)
+}
+
+/// The type variables of formulas.
+fn type_variables_in_list(
+    store: &Store<'_>,
+    context: &[TermId],
+) -> Result<List<TypeId>, AllocError>
+    requires { HasFormulas store.now.store context.now }
+    ensures { IfOk result (λ c. AreTypeVariables store.now.store.types c (type_variables_in (trees store.now.store context.now))) }
+{
+    let found = type_variables_of(store, context)?;
+    Ok(List::new(found))
 }
 
 impl<'b> Terms for Kernel<'b> {

@@ -4,27 +4,40 @@ ghost use Rattle.hol_types.specs.TypeSubst.{HasSubst, subst_tree};
 ghost use Rattle.hol_terms.specs.Substitution.{subst_types};
 ghost use Rattle.hol_terms.specs.TermStore.{HasTerm, term_tree};
 ghost use Rattle.hol_terms.specs.Formula.{ChangesNone};
-ghost use Rattle.hol_formulas.specs.Formulas.{trees, HasFormulas};
-ghost use Rattle.lcf_kernel.specs.KernelState.{HasThm, concl_of, all_hyps_of, IsKernel, KeepsAll};
+ghost use Rattle.lcf_kernel.specs.KernelState.{HasThm, concl_of, hyps_of, context_of, all_hyps_of, KeepsAll};
 
 use crate::kernel::Kernel;
 use crate::thm::ThmId;
-use hol_formulas::unchanged::changes_none;
+use hol_formulas::unchanged::{changes_none, leaves_each};
 use hol_terms::TermId;
-use hol_types::{List, Subst};
+use hol_types::Subst;
 use std::alloc::AllocError;
 
 impl<'b> Kernel<'b> {
-    /// The context and the hypotheses of a record.
-    fn all_hyps(&self, a: ThmId) -> Result<List<TermId>, AllocError>
-        requires { HasThm self.now a }
-        ensures formulas { IfOk result (λ c. HasFormulas self.now.store c) }
-        ensures are { IfOk result (λ c. trees self.now.store c ≡ all_hyps_of self.now a) }
-        ensures lawful { IsKernel self.now }
+    /// Whether types for type variables change no type variable of the context. It takes one look-up in them for each type
+    /// variable of the context.
+    fn keeps_context(&mut self, s: &Subst) -> Result<bool, AllocError>
+        requires { HasSubst self.old.store.types s.now }
+        ensures is { IfOk result (λ r. r ≡ true → ChangesNone (subst_tree self.old.store.types s.now) (context_of self.old)) }
+        ensures isnt { IfOk result (λ r. r ≡ false → ChangesNone (subst_tree self.old.store.types s.now) (context_of self.old) → ⊥) }
+        ensures keeps { KeepsAll self.old self.new }
     {
-        let mut all = Vec::from_slice(self.alloc(), self.context())?;
-        all.extend_from_slice(self.hyps(a))?;
-        Ok(List::new(all))
+        let types = Vec::from_slice(self.alloc(), self.type_variables())?;
+        let r = leaves_each(self, types.as_slice(), s)?;
+        Ok(r)
+    }
+
+    /// Whether types for type variables change no type variable of a record's own hypotheses.
+    fn keeps_own(&mut self, a: ThmId, s: &Subst) -> Result<bool, AllocError>
+        requires thm { HasThm self.old a }
+        requires subst { HasSubst self.old.store.types s.now }
+        ensures is { IfOk result (λ r. r ≡ true → ChangesNone (subst_tree self.old.store.types s.now) (hyps_of self.old a)) }
+        ensures isnt { IfOk result (λ r. r ≡ false → ChangesNone (subst_tree self.old.store.types s.now) (hyps_of self.old a) → ⊥) }
+        ensures keeps { KeepsAll self.old self.new }
+    {
+        let own = Vec::from_slice(self.alloc(), self.hyps(a))?;
+        let r = changes_none(self, own.as_slice(), s)?;
+        Ok(r)
     }
 
     /// Whether types for type variables change no type variable of a record's hypotheses or of the context.
@@ -35,8 +48,11 @@ impl<'b> Kernel<'b> {
         ensures isnt { IfOk result (λ r. r ≡ false → ChangesNone (subst_tree self.old.store.types s.now) (all_hyps_of self.old a) → ⊥) }
         ensures keeps { KeepsAll self.old self.new }
     {
-        let all = self.all_hyps(a)?;
-        let r = changes_none(self, all.as_slice(), s)?;
+        let in_context = self.keeps_context(s)?;
+        if !in_context {
+            return Ok(false);
+        }
+        let r = self.keeps_own(a, s)?;
         Ok(r)
     }
 
