@@ -1,0 +1,11 @@
+//! Derived rules: each is a few calls of the kernel's rules, and gives the theorem that its contract states.
+#![tactic(auto)]
+
+mod congruence;
+mod cutting;
+mod equality;
+mod makers;
+
+pub use congruence::cong;
+pub use cutting::cut;
+pub use equality::{sym, trans};

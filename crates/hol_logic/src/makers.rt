@@ -1,0 +1,112 @@
+//! Terms that the derived rules make in a kernel.
+ghost use Rattle.std.specs.Prelude.{◌≡◌, IfOk};
+ghost use Rattle.hol_types.specs.TypeStore.{HasType, type_tree};
+ghost use Rattle.hol_terms.specs.Term.{BoundTm, AppTm, LamTm, BoundsFit, Typed, ty_of};
+ghost use Rattle.hol_terms.specs.Substitution.{IsClosed, subst_bound};
+ghost use Rattle.hol_terms.specs.TermStore.{HasTerm, term_tree};
+ghost use Rattle.hol_terms.specs.Constants.{equation};
+ghost use Rattle.lcf_kernel.specs.Constants.{IsAt};
+ghost use Rattle.lcf_kernel.specs.KernelState.{KeepsAll};
+
+use hol_terms::{Node, TermId, Terms, make};
+use hol_types::TypeId;
+use lcf_kernel::Kernel;
+use lcf_kernel::equation::make_eq;
+use std::alloc::AllocError;
+
+/// The Bound 0 of a type: the place that a marking lambda marks.
+#[tactic(auto, using(lcf_kernel::proofs::KeepLemmas::keeps_all_rest))]
+pub(crate) fn place(k: &mut Kernel<'_>, ty: TypeId) -> Result<TermId, AllocError>
+    requires { HasType k.old.store.types ty }
+    ensures is { IfOk result (λ t. IsAt k.new.store t (BoundTm 0 (type_tree k.old.store.types ty))) }
+    ensures keeps { KeepsAll k.old k.new }
+{
+    let _constants = k.constants();
+    let t = make(k, Node::Bound(0, ty))?;
+    Ok(t)
+}
+
+/// The equation of two terms of one type, which may have loose Bounds.
+#[tactic(auto, using(lcf_kernel::proofs::KeepLemmas::keeps_all_rest))]
+pub(crate) fn equal(k: &mut Kernel<'_>, a: TermId, b: TermId) -> Result<TermId, AllocError>
+    requires left { HasTerm k.old.store a }
+    requires right { HasTerm k.old.store b }
+    requires same { ty_of (term_tree k.old.store b) ≡ ty_of (term_tree k.old.store a) }
+    ensures is { IfOk result (λ t. IsAt k.new.store t (equation (ty_of (term_tree k.old.store a)) (term_tree k.old.store a) (term_tree k.old.store b))) }
+    ensures keeps { KeepsAll k.old k.new }
+{
+    let constants = k.constants();
+    let t = make_eq(k, constants, a, b)?;
+    Ok(t)
+}
+
+/// The lambda of a type with a body.
+#[tactic(auto, using(lcf_kernel::proofs::KeepLemmas::keeps_all_rest))]
+pub(crate) fn lambda(k: &mut Kernel<'_>, ty: TypeId, body: TermId) -> Result<TermId, AllocError>
+    requires ty { HasType k.old.store.types ty }
+    requires body { HasTerm k.old.store body }
+    requires typed { Typed (LamTm (type_tree k.old.store.types ty) (term_tree k.old.store body)) }
+    ensures is { IfOk result (λ t. IsAt k.new.store t (LamTm (type_tree k.old.store.types ty) (term_tree k.old.store body))) }
+    ensures keeps { KeepsAll k.old k.new }
+{
+    let _constants = k.constants();
+    let t = make(k, Node::Lam(ty, body))?;
+    Ok(t)
+}
+
+/// One term applied to another.
+#[tactic(auto, using(lcf_kernel::proofs::KeepLemmas::keeps_all_rest))]
+pub(crate) fn application(k: &mut Kernel<'_>, f: TermId, x: TermId) -> Result<TermId, AllocError>
+    requires function { HasTerm k.old.store f }
+    requires argument { HasTerm k.old.store x }
+    requires typed { Typed (AppTm (term_tree k.old.store f) (term_tree k.old.store x)) }
+    ensures is { IfOk result (λ t. IsAt k.new.store t (AppTm (term_tree k.old.store f) (term_tree k.old.store x))) }
+    ensures keeps { KeepsAll k.old k.new }
+{
+    let _constants = k.constants();
+    let t = make(k, Node::App(f, x))?;
+    Ok(t)
+}
+
+/// A body with a closed term for its place.
+#[tactic(auto, using(lcf_kernel::proofs::KeepLemmas::keeps_all_rest))]
+pub(crate) fn opened(k: &mut Kernel<'_>, body: TermId, u: TermId) -> Result<TermId, AllocError>
+    requires body { HasTerm k.old.store body }
+    requires new { HasTerm k.old.store u }
+    requires closed { IsClosed (term_tree k.old.store u) }
+    requires fits { BoundsFit (term_tree k.old.store body) 0 (ty_of (term_tree k.old.store u)) }
+    ensures is { IfOk result (λ t. IsAt k.new.store t (subst_bound (term_tree k.old.store body) 0 (term_tree k.old.store u))) }
+    ensures keeps { KeepsAll k.old k.new }
+{
+    let _constants = k.constants();
+    let t = k.open(body, u)?;
+    Ok(t)
+}
+
+/// `(= _ t)`, the place marked.
+#[tactic(auto, using(lcf_kernel::proofs::KeepLemmas::keeps_all_same, lcf_kernel::proofs::KeepLemmas::keeps_all_trans))]
+pub(crate) fn place_left(k: &mut Kernel<'_>, t: TermId) -> Result<TermId, AllocError>
+    requires { HasTerm k.old.store t }
+    ensures is { IfOk result (λ r. IsAt k.new.store r (equation (ty_of (term_tree k.old.store t)) (BoundTm 0 (ty_of (term_tree k.old.store t))) (term_tree k.old.store t))) }
+    ensures typed { Typed (term_tree k.old.store t) }
+    ensures keeps { KeepsAll k.old k.new }
+{
+    let ty = k.ty(t);
+    let left = place(k, ty)?;
+    let r = equal(k, left, t)?;
+    Ok(r)
+}
+
+/// `(= t _)`, the place marked.
+#[tactic(auto, using(lcf_kernel::proofs::KeepLemmas::keeps_all_same, lcf_kernel::proofs::KeepLemmas::keeps_all_trans))]
+pub(crate) fn place_right(k: &mut Kernel<'_>, t: TermId) -> Result<TermId, AllocError>
+    requires { HasTerm k.old.store t }
+    ensures is { IfOk result (λ r. IsAt k.new.store r (equation (ty_of (term_tree k.old.store t)) (term_tree k.old.store t) (BoundTm 0 (ty_of (term_tree k.old.store t))))) }
+    ensures typed { Typed (term_tree k.old.store t) }
+    ensures keeps { KeepsAll k.old k.new }
+{
+    let ty = k.ty(t);
+    let right = place(k, ty)?;
+    let r = equal(k, t, right)?;
+    Ok(r)
+}
