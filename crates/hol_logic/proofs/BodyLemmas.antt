@@ -8,6 +8,7 @@ use Rattle.hol_terms.specs.Formula.{IsTerm, IsFormula}
 use Rattle.hol_terms.specs.Constants.{FunTy2, equation, apply_two}
 use Rattle.hol_terms.proofs.FormulaLemmas.{Has}
 use Rattle.hol_terms.proofs.DerivedFormulas.{body_has}
+use Rattle.hol_logic.specs.DerivedForms.{Takes}
 use Rattle.hol_terms.proofs.SubstitutionLemmas.{loose_more, loose_fits, opened_same}
 
 -- the term may stand under a lambda of a type, and has a type of its own
@@ -66,3 +67,22 @@ opened_beside own t b u closed = ap (λ x. equation own x (subst_bound b 0 u)) (
 -- the body with a term for the place
 pub start_has : {ty : Ty} {b t : Term} → IsTerm (LamTm ty b) → Has t ty → Has (subst_bound b 0 t) (ty_of b)
 start_has h has = body_has (record { term = h; type = refl }) has
+
+-- an application where the function takes the argument
+pub in_app_of : {ty : Ty} {f x : Term} {a b : Ty} → a ≡ FunTy b (result_ty a) → InBody ty f a → InBody ty x b → InBody ty (AppTm f x) (result_ty a)
+in_app_of {ty} {f} e h i = in_app (subst (λ u. InBody ty f u) e h) i
+
+pub opened_function : (ty : Ty) (x u : Term) → IsClosed x → subst_bound (AppTm (BoundTm 0 ty) x) 0 u ≡ AppTm u x
+opened_function ty x u closed = ap (λ y. AppTm u y) (opened_same x u 0 closed)
+
+pub opened_argument : (ty : Ty) (f u : Term) → IsClosed f → subst_bound (AppTm f (BoundTm 0 ty)) 0 u ≡ AppTm f u
+opened_argument ty f u closed = ap (λ y. AppTm y u) (opened_same f u 0 closed)
+
+-- `(= (f x) (g _))`
+pub congruent_body : {f g x : Term} → Takes f x → Has f (ty_of f) → Has g (ty_of f) → Has x (ty_of x)
+    → IsTerm (LamTm (ty_of x) (equation (result_ty (ty_of f)) (AppTm f x) (AppTm g (BoundTm 0 (ty_of x)))))
+congruent_body {f} {g} {x} takes hf hg hx = lambda_is (in_equation (in_app_of takes (in_closed hf) (in_closed hx)) (in_app_of takes (in_closed hg) (in_place (ty_of x))))
+
+pub congruent_start : (f g x y : Term) → IsClosed f → IsClosed g → IsClosed x
+    → subst_bound (equation (result_ty (ty_of f)) (AppTm f x) (AppTm g (BoundTm 0 (ty_of x)))) 0 y ≡ equation (result_ty (ty_of f)) (AppTm f x) (AppTm g y)
+congruent_start f g x y cf cg cx = rw (opened_same f y 0 cf, opened_same g y 0 cg, opened_same x y 0 cx) refl

@@ -5,7 +5,7 @@ use Rattle.lcf_kernel.specs.declared.rules.RuleFault.{RuleFault}
 use Rattle.lcf_kernel.specs.declared.rules.RuleFault.TheVariants.{Shape}
 use Rattle.std.proofs.lemmas.List.{append-nil}
 use Rattle.hol_terms.specs.Term.{Term, LamTm, ty_of}
-use Rattle.hol_types.specs.Ty.{Ty}
+use Rattle.hol_types.specs.Ty.{Ty, FunTy}
 use Rattle.hol_terms.specs.Constants.{equation, implication}
 use Rattle.hol_terms.specs.Substitution.{subst_bound}
 use Rattle.hol_terms.specs.TermStore.{TermStore, HasTerm, term_tree}
@@ -18,7 +18,7 @@ use Rattle.lcf_kernel.specs.RuleForms.{IsSubstitution}
 use Rattle.lcf_kernel.specs.KernelState.{KernelState, HasThm, concl_of, hyps_of, bare_of, KeepsAll}
 use Rattle.hol_terms.proofs.FormulaLemmas.{Has, equation_left, equation_right}
 use Rattle.hol_logic.specs.States.{States, Equates}
-use Rattle.hol_logic.specs.DerivedForms.{IsChain}
+use Rattle.hol_logic.specs.DerivedForms.{IsChain, AreCongruent, Takes}
 
 -- ---- a kernel that goes on
 
@@ -153,3 +153,13 @@ passed_on (Err f) e h never = λ s. never (sym h ∙ s)
 pub passed_shape : {A P : Type 0} (r : Result A RuleFault) (e : RuleFault) → IsErrAnd r (λ f. f ≡ e) → (e ≡ Shape → P → ⊥) → IfErr r (λ f. f ≡ Shape → P → ⊥)
 passed_shape (Ok x) e h never = tt
 passed_shape (Err f) e h never = λ s. never (sym h ∙ s)
+
+-- functions and arguments that fit
+pub congruent_takes : {k : KernelState} {a b : ℕ} {p q : Sides} → Equates k a p → Equates k b q → AreCongruent (concl_of k a) (concl_of k b) → Takes (term_tree k.store p.left) (term_tree k.store q.left)
+congruent_takes {k} {a} {b} {p} {q} e f c =
+    let function : ty_of (term_tree k.store p.left) ≡ FunTy c.argument_type c.result_type = same_equation_type e.concl c.functions_is in
+    let argument : ty_of (term_tree k.store q.left) ≡ c.argument_type = same_equation_type f.concl c.arguments_is in
+    rw (function, argument) refl
+  where
+    same_equation_type : {said x y u v : Term} {ty uy : Ty} → said ≡ equation ty x y → said ≡ equation uy u v → ty ≡ uy
+    same_equation_type g h = cc

@@ -408,7 +408,7 @@ pub fn make_not<S: Terms>(
 }
 
 /// One term applied to another, where that fits.
-pub(crate) fn apply_fitting<S: Terms>(
+pub fn apply_fitting<S: Terms>(
     store: &mut S,
     f: TermId,
     x: TermId,

@@ -8,7 +8,7 @@ use Rattle.hol_terms.specs.Formula.{In, SameMembers, without}
 use Rattle.hol_terms.proofs.SetLemmas.{same_refl, same_trans}
 use Rattle.lcf_kernel.specs.KernelState.{concl_of, hyps_of, bare_of}
 use Rattle.lcf_kernel.proofs.KeepLemmas.{keeps_all_trans}
-use Rattle.hol_logic.proofs.StateLemmas.{bare_keeps, same_swap, and_swap, implied}
+use Rattle.hol_logic.proofs.StateLemmas.{bare_keeps, same_swap, and_swap, implied, passed_shape}
 use Rattle.hol_logic.proofs.HypothesisLemmas.{same_both}
 use Rattle.hol_logic.proofs.cutting.cut.Goals as goal
 
@@ -42,10 +42,10 @@ returns-clause-states c =
     }
 
 pub returns-clause-ok : goal.returns-clause-ok
-returns-clause-ok c = ?
+returns-clause-ok c = subst (λ t. In t (hyps_of c.args.k.now c.args.b)) c.concl-proved.ensures.tree (c.is_hypothesis.ensures.0 c.if-not-is_hypothesis.false)
 
 pub returns-in_err-step-clause-shape : goal.returns-in_err-step-clause-shape
-returns-in_err-step-clause-shape c = λ e. absurd (c.in_err-step.ensures.shape e (ap (λ (t : Term). ty_of t) c.concl-proved.ensures.tree ∙ c.concl-proved.ensures.formula.bool))
+returns-in_err-step-clause-shape c = passed_shape c.from_residual.result c.in_err-step.field-0.0 c.from_residual.ensures.1 (λ e. absurd (c.in_err-step.ensures.shape e (ap (λ (t : Term). ty_of t) c.concl-proved.ensures.tree ∙ c.concl-proved.ensures.formula.bool)))
 
 pub returns-in_err-r-clause-shape : goal.returns-in_err-r-clause-shape
 returns-in_err-r-clause-shape c =
@@ -53,7 +53,7 @@ returns-in_err-r-clause-shape c =
     let m = c.imp_i.new.self in
     let g = c.imp_i.ensures.keeps in
     let first : concl_of m c.in_ok-step.step ≡ implication (concl_of m c.args.a) (concl_of k c.args.b) = rw (g.records.concls c.args.a c.requires.proved) (rw c.concl-proved.ensures.tree at c.in_ok-step.ensures.concl) in
-    λ e. absurd (c.in_err-r.ensures.shape e (concl_of k c.args.b) first)
+    passed_shape c.from_residual-in_err-r.result c.in_err-r.field-0.0 c.from_residual-in_err-r.ensures.1 (λ e. absurd (c.in_err-r.ensures.shape e (concl_of k c.args.b) first))
 
 pub returns-in_err-step-clause-keeps : goal.returns-in_err-step-clause-keeps
 returns-in_err-step-clause-keeps c = c.imp_i.ensures.keeps
