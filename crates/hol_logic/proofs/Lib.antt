@@ -1,3 +1,4 @@
 pub mod StateLemmas
 pub mod BodyLemmas
 pub mod HypothesisLemmas
+pub mod EquationLemmas

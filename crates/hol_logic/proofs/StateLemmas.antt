@@ -132,15 +132,17 @@ pub chain_stated : {k l : KernelState} {a b r : ℕ} {p q : Sides} {H : List Ter
     → States l r (equation (ty_of (term_tree k.store p.left)) (term_tree k.store p.left) (term_tree k.store q.right)) H d
     → (e : IsChain (concl_of k a) (concl_of k b)) × States l r (equation e.type e.left e.right) H d
 chain_stated {k} {l} {a} {b} {r} {p} {q} e f middle s =
-    let type : ty_of (term_tree k.store q.left) ≡ ty_of (term_tree k.store p.left) = ap (λ u. ty_of u) (sym middle) ∙ (right_has e).type in
-    (record {
-      type = ty_of (term_tree k.store p.left);
-      left = term_tree k.store p.left;
-      middle = term_tree k.store p.right;
-      right = term_tree k.store q.right;
-      first_is = e.concl;
-      second_is = f.concl ∙ rw (type, middle) refl;
-    }, s)
+    let type : ty_of (term_tree k.store q.left) ≡ ty_of (term_tree k.store p.left) = ap (λ u. ty_of u) (sym middle) ∙ (right_has e).type in (
+      record {
+        type = ty_of (term_tree k.store p.left);
+        left = term_tree k.store p.left;
+        middle = term_tree k.store p.right;
+        right = term_tree k.store q.right;
+        first_is = e.concl;
+        second_is = f.concl ∙ rw (type, middle) refl;
+      },
+      s,
+    )
 
 -- ---- answers that are passed on
 

@@ -6,6 +6,7 @@ use Rattle.hol_terms.specs.Formula.{IsFormula, SameMembers}
 use Rattle.hol_terms.specs.Constants.{equation}
 use Rattle.lcf_kernel.specs.KernelState.{KernelState, HasThm, concl_of, hyps_of, bare_of}
 use Rattle.lcf_kernel.specs.declared.formula.Sides.{Sides}
+use Rattle.hol_logic.specs.DerivedForms.{IsEquation}
 
 -- record r concludes the formula under these hypotheses outside the context, and was derived without facts where the flag says so
 pub record States (k : KernelState) (r : ℕ) (formula : Term) (given : List Term) (is_bare : Bool) : Type 0 where
@@ -21,3 +22,8 @@ pub record Equates (k : KernelState) (a : ℕ) (p : Sides) : Type 0 where
   pub right : HasTerm k.store p.right
   pub concl : concl_of k a ≡ equation (ty_of (term_tree k.store p.left)) (term_tree k.store p.left) (term_tree k.store p.right)
   pub formula : IsFormula (concl_of k a)
+
+-- record a concludes an equation
+pub record Equal (k : KernelState) (a : ℕ) : Type 0 where
+  pub there : HasThm k a
+  pub equation : IsEquation (concl_of k a)

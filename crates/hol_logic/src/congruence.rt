@@ -38,12 +38,7 @@ fn takes(k: &Kernel<'_>, f: TermId, x: TermId) -> bool
 //   G |- (= (f x) (g x))
 /// Equal functions of one argument, by the ids of the functions. There is no Shape.
 #[tactic(auto, using(lcf_kernel::proofs::KeepLemmas::keeps_all_same, lcf_kernel::proofs::KeepLemmas::keeps_all_trans))]
-fn of_functions(
-    k: &mut Kernel<'_>,
-    a: ThmId,
-    sides: Sides,
-    x: TermId,
-) -> Result<ThmId, RuleFault>
+fn of_functions(k: &mut Kernel<'_>, a: ThmId, sides: Sides, x: TermId) -> Result<ThmId, RuleFault>
     requires equates { Equates k.old a sides }
     requires argument { HasTerm k.old.store x }
     requires term { IsTerm (term_tree k.old.store x) }
@@ -77,12 +72,7 @@ fn place_argument(k: &mut Kernel<'_>, f: TermId, x: TermId) -> Result<TermId, Al
 
 /// `(= (f x) (g _))`, the place marked.
 #[tactic(auto, using(lcf_kernel::proofs::KeepLemmas::keeps_all_same, lcf_kernel::proofs::KeepLemmas::keeps_all_trans))]
-fn place_other(
-    k: &mut Kernel<'_>,
-    f: TermId,
-    g: TermId,
-    x: TermId,
-) -> Result<TermId, AllocError>
+fn place_other(k: &mut Kernel<'_>, f: TermId, g: TermId, x: TermId) -> Result<TermId, AllocError>
     requires function { HasTerm k.old.store f }
     requires other { HasTerm k.old.store g }
     requires argument { HasTerm k.old.store x }

@@ -7,7 +7,7 @@ ghost use Rattle.hol_terms.specs.TermStore.{HasTerm, TermsApart, term_tree};
 ghost use Rattle.hol_terms.specs.Formula.{IsFormula, IsTerm};
 ghost use Rattle.hol_terms.specs.Constants.{equation};
 ghost use Rattle.lcf_kernel.specs.KernelState.{HasThm, concl_of, hyps_of, bare_of, KeepsAll};
-ghost use Rattle.hol_logic.specs.States.{States, Equates};
+ghost use Rattle.hol_logic.specs.States.{States, Equates, Equal};
 ghost use Rattle.hol_logic.specs.DerivedForms.{IsEquation, IsChain};
 
 use crate::makers::{equal, lambda, opened, place_left, place_right};
@@ -116,6 +116,26 @@ pub(crate) fn carried(
     let same = k.refl(start)?;
     let whole = equal(k, start, body)?;
     let r = rewritten(k, a, same, sides, whole)?;
+    Ok(r)
+}
+
+//            G |- (= t u)
+//  -------------------------------- carry
+//   G |- (= (b with t) (b with u))
+/// An equation carried into a body whose place is Bound 0. There is no Shape.
+#[tactic(auto, using(lcf_kernel::proofs::KeepLemmas::keeps_all_same, lcf_kernel::proofs::KeepLemmas::keeps_all_trans))]
+pub(crate) fn carry(k: &mut Kernel<'_>, a: ThmId, body: TermId) -> Result<ThmId, RuleFault>
+    requires equal { Equal k.old a }
+    requires body { HasTerm k.old.store body }
+    requires function { (e : IsEquation (concl_of k.old a)) → IsTerm (LamTm e.type (term_tree k.old.store body)) }
+    ensures states { IfOk result (λ r. (e : IsEquation (concl_of k.old a)) × States k.new r (equation (ty_of (term_tree k.old.store body)) (subst_bound (term_tree k.old.store body) 0 e.left) (subst_bound (term_tree k.old.store body) 0 e.right)) (hyps_of k.old a) (bare_of k.old a)) }
+    ensures shape { IfErr result (λ e. e ≡ RuleFault.Shape → ⊥) }
+    ensures keeps { KeepsAll k.old k.new }
+{
+    let Some(sides) = sides_of(k, a) else {
+        return Err(RuleFault::Shape);
+    };
+    let r = carried(k, a, sides, body)?;
     Ok(r)
 }
 

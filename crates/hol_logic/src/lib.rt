@@ -1,11 +1,13 @@
 //! Derived rules: each is a few calls of the kernel's rules, and gives the theorem that its contract states.
 #![tactic(auto)]
 
+mod abstraction;
 mod congruence;
 mod cutting;
 mod equality;
 mod makers;
 
+pub use abstraction::{under_all, under_ex};
 pub use congruence::cong;
 pub use cutting::cut;
 pub use equality::{sym, trans};

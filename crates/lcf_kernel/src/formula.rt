@@ -86,7 +86,7 @@ fn constant<S: Terms>(store: &mut S, text: &[u8], ty: TypeId) -> Result<TermId, 
 }
 
 /// The type of functions from one type to another.
-pub(crate) fn function_type<S: Terms>(
+pub fn function_type<S: Terms>(
     store: &mut S,
     from: TypeId,
     to: TypeId,
