@@ -2,3 +2,4 @@ pub mod StateLemmas
 pub mod BodyLemmas
 pub mod HypothesisLemmas
 pub mod EquationLemmas
+pub mod DefinitionLemmas

@@ -165,3 +165,6 @@ congruent_takes {k} {a} {b} {p} {q} e f c =
   where
     same_equation_type : {said x y u v : Term} {ty uy : Ty} → said ≡ equation ty x y → said ≡ equation uy u v → ty ≡ uy
     same_equation_type g h = cc
+
+pub led_to : (a b x d said : Term) → said ≡ implication a b → said ≡ implication x d → d ≡ b
+led_to a b x d said e f = cc

@@ -4,10 +4,12 @@
 mod abstraction;
 mod congruence;
 mod cutting;
+mod definition;
 mod equality;
 mod makers;
 
 pub use abstraction::{under_all, under_ex};
 pub use congruence::cong;
 pub use cutting::cut;
+pub use definition::drop_definition;
 pub use equality::{sym, trans};
