@@ -212,7 +212,7 @@ pub fn make_abstraction<S: Terms>(store: &mut S, v: TermId, a: TermId) -> Result
 
 /// The constant of a name that takes a predicate on a type to a result.
 #[tactic(auto, using(hol_terms::proofs::KeepsLemmas::keeps_trans))]
-fn of_predicates<S: Terms>(
+pub fn of_predicates<S: Terms>(
     store: &mut S,
     bool: TypeId,
     name: NameId,

@@ -1,0 +1,5 @@
+pub mod StateLemmas
+pub mod BodyLemmas
+pub mod HypothesisLemmas
+pub mod EquationLemmas
+pub mod DefinitionLemmas
