@@ -78,6 +78,7 @@ pub(crate) enum Call {
     TwoAndTerm(TwoAndTerm, usize, usize, usize),
 }
 
+#[tactic(auto, using(crate::proofs::TestLemmas::thm_read))]
 fn record_at(rt: &impl Abort, k: &Kernel<'_>, records: &[ThmId], i: usize) -> ThmId
     requires { AreThms k.now records.now }
     ensures { HasThm k.now result }
@@ -121,12 +122,7 @@ fn of_record(k: &mut Kernel<'_>, rule: OfRecord, a: ThmId) -> Result<ThmId, Rule
     }
 }
 
-fn with_term(
-    k: &mut Kernel<'_>,
-    rule: WithTerm,
-    a: ThmId,
-    t: TermId,
-) -> Result<ThmId, RuleFault>
+fn with_term(k: &mut Kernel<'_>, rule: WithTerm, a: ThmId, t: TermId) -> Result<ThmId, RuleFault>
     requires thm { HasThm k.old a }
     requires there { HasTerm k.old.store t }
     requires closed { IsClosed (term_tree k.old.store t) }

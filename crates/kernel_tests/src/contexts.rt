@@ -90,10 +90,16 @@ fn given(rt: HostRuntime) -> Result<(), Fail> {
         (Call::WithTerm(WithTerm::AllI, 1, 0), Answer::Shape),
         (Call::WithTerm(WithTerm::AllI, 1, 1), Answer::Says(&[], 13)),
         (Call::OfTerm(OfTerm::Assume, 6), Answer::Says(&[6], 6)),
-        (Call::TwoAndTerm(TwoAndTerm::ExE, 3, 1, 0), Answer::Says(&[6], 2)),
+        (
+            Call::TwoAndTerm(TwoAndTerm::ExE, 3, 1, 0),
+            Answer::Says(&[6], 2),
+        ),
         (Call::OfTerm(OfTerm::Assume, 10), Answer::Says(&[10], 10)),
         (Call::TwoAndTerm(TwoAndTerm::ExE, 5, 1, 0), Answer::Shape),
-        (Call::TwoAndTerm(TwoAndTerm::ExE, 5, 1, 1), Answer::Says(&[10], 2)),
+        (
+            Call::TwoAndTerm(TwoAndTerm::ExE, 5, 1, 1),
+            Answer::Says(&[10], 2),
+        ),
         (Call::WithTerm(WithTerm::Weaken, 1, 0), Answer::Says(&[], 2)),
     ];
     let made = store(&rt, rt.alloc())?;

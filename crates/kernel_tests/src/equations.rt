@@ -35,7 +35,10 @@ fn congruence(rt: HostRuntime) -> Result<(), Fail> {
     let lines = [
         (Call::OfTerm(OfTerm::Assume, 5), Answer::Says(&[5], 5)),
         (Call::OfTerm(OfTerm::Refl, 6), Answer::Says(&[], 10)),
-        (Call::TwoAndTerm(TwoAndTerm::Subst, 0, 1, 14), Answer::Says(&[5], 9)),
+        (
+            Call::TwoAndTerm(TwoAndTerm::Subst, 0, 1, 14),
+            Answer::Says(&[5], 9),
+        ),
         (Call::TwoAndTerm(TwoAndTerm::Subst, 0, 0, 14), Answer::Shape),
         (Call::TwoAndTerm(TwoAndTerm::Subst, 0, 1, 6), Answer::Shape),
         (Call::TwoAndTerm(TwoAndTerm::Subst, 1, 1, 14), Answer::Shape),
@@ -113,8 +116,14 @@ fn branches(rt: HostRuntime) -> Result<(), Fail> {
     let lines = [
         (Call::OfTerm(OfTerm::Assume, 0), Answer::Says(&[0], 0)),
         (Call::OfTerm(OfTerm::Assume, 6), Answer::Says(&[6], 6)),
-        (Call::WithTwo(WithTwo::IteT, 0, 1, 2), Answer::Says(&[0], 11)),
-        (Call::WithTwo(WithTwo::IteF, 1, 1, 2), Answer::Says(&[6], 12)),
+        (
+            Call::WithTwo(WithTwo::IteT, 0, 1, 2),
+            Answer::Says(&[0], 11),
+        ),
+        (
+            Call::WithTwo(WithTwo::IteF, 1, 1, 2),
+            Answer::Says(&[6], 12),
+        ),
         (Call::WithTwo(WithTwo::IteT, 0, 1, 3), Answer::Shape),
         (Call::WithTwo(WithTwo::IteF, 0, 1, 2), Answer::Shape),
         (Call::WithTwo(WithTwo::IteF, 1, 1, 3), Answer::Shape),

@@ -33,7 +33,10 @@ fn commuted(rt: HostRuntime) -> Result<(), Fail> {
         (Call::OfRecord(OfRecord::AndE1, 4), Answer::Shape),
         (Call::OfRecord(OfRecord::AndE2, 1), Answer::Shape),
         (Call::WithTerm(WithTerm::ImpI, 0, 2), Answer::Shape),
-        (Call::WithTerm(WithTerm::Weaken, 4, 0), Answer::Says(&[0], 9)),
+        (
+            Call::WithTerm(WithTerm::Weaken, 4, 0),
+            Answer::Says(&[0], 9),
+        ),
         (Call::WithTerm(WithTerm::Weaken, 4, 3), Answer::Shape),
         (Call::OfTerm(OfTerm::Assume, 2), Answer::Shape),
     ];
@@ -62,7 +65,10 @@ fn excluded_middle(rt: HostRuntime) -> Result<(), Fail> {
         (Call::WithTerm(WithTerm::NotI, 3, 0), Answer::Says(&[7], 4)),
         (Call::WithTerm(WithTerm::OrI2, 4, 0), Answer::Says(&[7], 6)),
         (Call::OfTwo(OfTwo::NotE, 0, 5), Answer::Says(&[7], 3)),
-        (Call::WithTerm(WithTerm::Classical, 6, 6), Answer::Says(&[], 6)),
+        (
+            Call::WithTerm(WithTerm::Classical, 6, 6),
+            Answer::Says(&[], 6),
+        ),
         (Call::OfTerm(OfTerm::Assume, 4), Answer::Says(&[4], 4)),
         (Call::WithTerm(WithTerm::OrI2, 8, 0), Answer::Says(&[4], 6)),
         (Call::OrE(7, 2, 9), Answer::Says(&[], 6)),
@@ -73,7 +79,10 @@ fn excluded_middle(rt: HostRuntime) -> Result<(), Fail> {
         (Call::OfTwo(OfTwo::NotE, 1, 1), Answer::Shape),
         (Call::WithTerm(WithTerm::NotI, 7, 0), Answer::Shape),
         (Call::WithTerm(WithTerm::Classical, 7, 0), Answer::Shape),
-        (Call::WithTerm(WithTerm::FalseE, 3, 4), Answer::Says(&[0, 7], 4)),
+        (
+            Call::WithTerm(WithTerm::FalseE, 3, 4),
+            Answer::Says(&[0, 7], 4),
+        ),
         (Call::WithTerm(WithTerm::FalseE, 7, 0), Answer::Shape),
         (Call::WithTerm(WithTerm::OrI1, 7, 2), Answer::Shape),
         (Call::WithTerm(WithTerm::OrI2, 7, 1), Answer::Shape),

@@ -42,7 +42,10 @@ fn existences(rt: HostRuntime) -> Result<(), Fail> {
         (Call::OfTerm(OfTerm::Assume, 9), Answer::Says(&[9], 9)),
         (Call::WithTwo(WithTwo::ExI, 0, 7, 1), Answer::Says(&[9], 7)),
         (Call::OfTerm(OfTerm::Assume, 7), Answer::Says(&[7], 7)),
-        (Call::TwoAndTerm(TwoAndTerm::ExE, 2, 1, 1), Answer::Says(&[7], 7)),
+        (
+            Call::TwoAndTerm(TwoAndTerm::ExE, 2, 1, 1),
+            Answer::Says(&[7], 7),
+        ),
         (Call::OfRecord(OfRecord::Choice, 2), Answer::Says(&[7], 12)),
         (Call::WithTwo(WithTwo::ExI, 4, 7, 11), Answer::Says(&[7], 7)),
         (Call::TwoAndTerm(TwoAndTerm::ExE, 2, 0, 1), Answer::Shape),
@@ -52,7 +55,10 @@ fn existences(rt: HostRuntime) -> Result<(), Fail> {
         (Call::WithTwo(WithTwo::ExI, 0, 7, 11), Answer::Shape),
         (Call::WithTwo(WithTwo::ExI, 0, 8, 1), Answer::Shape),
         (Call::OfRecord(OfRecord::Choice, 0), Answer::Shape),
-        (Call::WithTerm(WithTerm::Weaken, 1, 9), Answer::Says(&[9], 7)),
+        (
+            Call::WithTerm(WithTerm::Weaken, 1, 9),
+            Answer::Says(&[9], 7),
+        ),
         (Call::WithTerm(WithTerm::ImpI, 1, 0), Answer::Shape),
     ];
     predicates(&rt, rt.alloc(), &lines)
@@ -67,7 +73,10 @@ fn generality(rt: HostRuntime) -> Result<(), Fail> {
         (Call::WithTerm(WithTerm::AllI, 1, 1), Answer::Says(&[8], 8)),
         (Call::OfTerm(OfTerm::Assume, 13), Answer::Says(&[13], 13)),
         (Call::WithTerm(WithTerm::AllE, 3, 1), Answer::Says(&[13], 9)),
-        (Call::WithTerm(WithTerm::AllE, 3, 11), Answer::Says(&[13], 12)),
+        (
+            Call::WithTerm(WithTerm::AllE, 3, 11),
+            Answer::Says(&[13], 12),
+        ),
         (Call::OfTerm(OfTerm::Assume, 9), Answer::Says(&[9], 9)),
         (Call::WithTerm(WithTerm::AllI, 6, 1), Answer::Shape),
         (Call::WithTerm(WithTerm::AllI, 1, 9), Answer::Shape),

@@ -60,6 +60,7 @@ fn assert_says(
     Ok(())
 }
 
+#[tactic(auto, using(crate::proofs::TestLemmas::thms_kept, crate::proofs::TestLemmas::thms_push))]
 fn step(
     rt: &impl Abort,
     k: &mut Kernel<'_>,
@@ -88,6 +89,7 @@ fn step(
 }
 
 /// Makes the calls of a script, in order, and looks at each answer. The records are those of the calls that made one.
+#[tactic(auto, using(lcf_kernel::proofs::KeepLemmas::keeps_all_trans, crate::proofs::TestLemmas::no_thms))]
 pub(crate) fn run(
     rt: &impl Abort,
     k: &mut Kernel<'_>,
@@ -105,6 +107,7 @@ pub(crate) fn run(
     Ok(records)
 }
 
+#[tactic(auto, using(crate::proofs::TestLemmas::terms_kept))]
 fn store(
     rt: &impl Abort,
     alloc: Global,
@@ -119,7 +122,7 @@ fn store(
     Ok((base.freeze(), terms))
 }
 
-#[tactic(auto, using(crate::proofs::TestLemmas::no_formulas_there, crate::proofs::TestLemmas::no_context))]
+#[tactic(auto, using(crate::proofs::TestLemmas::no_formulas_there, crate::proofs::TestLemmas::no_context, crate::proofs::TestLemmas::terms_kept))]
 fn over_store(
     rt: &impl Abort,
     alloc: Global,

@@ -7,9 +7,9 @@ ghost use Rattle.lcf_kernel.specs.KernelState.{HasThm, IsKernel};
 ghost use Rattle.hol_formulas.specs.Formulas.{HasFormula};
 ghost use Rattle.hol_formulas.specs.Constants.{AreConstants};
 
+use hol_formulas::formula::{Constants, make_not};
 use hol_terms::{Base, Frozen, TermId, Terms};
 use hol_types::{List, Subst};
-use hol_formulas::formula::{Constants, make_not};
 use lcf_kernel::{Kernel, RuleFault, ThmId};
 use std::alloc::Global;
 use std::process::Abort;

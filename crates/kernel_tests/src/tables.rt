@@ -27,6 +27,7 @@ pub(crate) enum TermRow<'a> {
     Lam(usize, usize),
 }
 
+#[tactic(auto, using(crate::proofs::TestLemmas::type_read))]
 fn type_at<S: Terms>(rt: &impl Abort, store: &S, types: &[TypeId], i: usize) -> TypeId
     requires { AreTypes (S.store store.now) types.now }
     ensures { HasType (S.store store.now).types result }
@@ -35,6 +36,7 @@ fn type_at<S: Terms>(rt: &impl Abort, store: &S, types: &[TypeId], i: usize) -> 
     types[i]
 }
 
+#[tactic(auto, using(crate::proofs::TestLemmas::term_read))]
 pub(crate) fn term_at<S: Terms>(rt: &impl Abort, store: &S, terms: &[TermId], i: usize) -> TermId
     requires { AreTerms (S.store store.now) terms.now }
     ensures { HasTerm (S.store store.now) result }
@@ -74,6 +76,7 @@ fn type_of<S: Terms>(
 }
 
 /// The types of a table.
+#[tactic(auto, using(hol_terms::proofs::KeepsLemmas::keeps_trans, crate::proofs::TestLemmas::types_kept, crate::proofs::TestLemmas::types_push, crate::proofs::TestLemmas::no_types))]
 pub(crate) fn types_of<S: Terms>(
     rt: &impl Abort,
     store: &mut S,
@@ -137,6 +140,7 @@ fn term_of<S: Terms>(
 }
 
 /// The terms of a table, over types.
+#[tactic(auto, using(hol_terms::proofs::KeepsLemmas::keeps_trans, crate::proofs::TestLemmas::types_kept, crate::proofs::TestLemmas::terms_kept, crate::proofs::TestLemmas::terms_push, crate::proofs::TestLemmas::no_terms))]
 pub(crate) fn terms_of<S: Terms>(
     rt: &impl Abort,
     store: &mut S,
