@@ -3,3 +3,4 @@ pub mod BodyLemmas
 pub mod HypothesisLemmas
 pub mod EquationLemmas
 pub mod DefinitionLemmas
+pub mod InstanceLemmas

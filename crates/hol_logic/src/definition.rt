@@ -66,12 +66,7 @@ fn is_in_neither(k: &Kernel<'_>, v: TermId, x: TermId, y: TermId) -> Result<bool
 /// The implication from a definition, with the term for its variable. Shape exactly where another hypothesis, of the
 /// record or in the context, speaks of the variable.
 #[tactic(auto, using(lcf_kernel::proofs::KeepLemmas::keeps_all_same, lcf_kernel::proofs::KeepLemmas::keeps_all_trans))]
-fn defined(
-    k: &mut Kernel<'_>,
-    a: ThmId,
-    d: TermId,
-    sides: Sides,
-) -> Result<ThmId, RuleFault>
+fn defined(k: &mut Kernel<'_>, a: ThmId, d: TermId, sides: Sides) -> Result<ThmId, RuleFault>
     requires thm { HasThm k.old a }
     requires there { HasTerm k.old.store d }
     requires formula { IsFormula (term_tree k.old.store d) }

@@ -6,6 +6,7 @@ mod congruence;
 mod cutting;
 mod definition;
 mod equality;
+mod instances;
 mod makers;
 
 pub use abstraction::{under_all, under_ex};
@@ -13,3 +14,4 @@ pub use congruence::cong;
 pub use cutting::cut;
 pub use definition::drop_definition;
 pub use equality::{sym, trans};
+pub use instances::instance;

@@ -74,7 +74,7 @@ returns-in_err-general-clause-shape c =
     let first = c.imp_i.ensures.keeps in
     let refused = rw (tree_kept first c.requires.left) at c.in_err-general.ensures.shape in
     passed_shape c.from_residual-in_err-general.result c.in_err-general.field-0.0 c.from_residual-in_err-general.ensures.1 (λ h general.
-      refused h (general_of v (context_of k) (context_of c.imp_i.new.self) (without (term_tree k.store c.args.d) (hyps_of k c.args.a)) (hyps_of c.imp_i.new.self c.in_ok-step.step) (sym first.records.context_trees) (same_sym c.in_ok-step.ensures.hyps) general))
+    refused h (general_of v (context_of k) (context_of c.imp_i.new.self) (without (term_tree k.store c.args.d) (hyps_of k c.args.a)) (hyps_of c.imp_i.new.self c.in_ok-step.step) (sym first.records.context_trees) (same_sym c.in_ok-step.ensures.hyps) general))
 
 pub returns-in_err-r-clause-shape : goal.returns-in_err-r-clause-shape
 returns-in_err-r-clause-shape c =
@@ -89,7 +89,7 @@ returns-in_err-r-clause-shape c =
     let step = rw c.requires.is at c.in_ok-step.ensures.concl in
     let general : concl_of c.all_i.new.self c.in_ok-general.general ≡ for_all (ty_of v) (abstraction v whole) = rw (tree_kept first c.requires.left, step) at c.in_ok-general.ensures.concl in
     passed_shape c.from_residual-in_err-r.result c.in_err-r.field-0.0 c.from_residual-in_err-r.ensures.1 (λ h.
-      absurd (c.in_err-r.ensures.shape h (record { predicate = abstraction v whole; is = rw (tree_kept g c.requires.right, value.type) general })))
+    absurd (c.in_err-r.ensures.shape h (record { predicate = abstraction v whole; is = rw (tree_kept g c.requires.right, value.type) general })))
 
 pub returns-in_err-step-clause-keeps : goal.returns-in_err-step-clause-keeps
 returns-in_err-step-clause-keeps c = c.imp_i.ensures.keeps
