@@ -108,15 +108,15 @@ module _ (made : Made) (u : TermStore) (k : Keeps made.base u) (is : AreItems ma
         λ i. record (same i) { types = names i }
 
 -- a constant is declared
-module _ (old new : Made) (name : List ℕ) (n ty : ℕ) (ground : Bool) (k : Keeps old.base new.base) (is : AreItems old) (text : IsNameOf new.base n name) (there : HasType old.base.types ty) (tested : ground ≡ is_ground (type_tree new.base.types ty))
-    (types : new.scope.types ≡ old.scope.types) (binders : new.scope.binders ≡ old.scope.binders) (consts : new.scope.consts ≡ old.scope.consts ++ (name, record { name = n; ty = ty; ground = ground }) ∷ [])
+module _ (old new : Made) (name : List ℕ) (n ty : ℕ) (monomorphic : Bool) (k : Keeps old.base new.base) (is : AreItems old) (text : IsNameOf new.base n name) (there : HasType old.base.types ty) (tested : monomorphic ≡ is_ground (type_tree new.base.types ty))
+    (types : new.scope.types ≡ old.scope.types) (binders : new.scope.binders ≡ old.scope.binders) (consts : new.scope.consts ≡ old.scope.consts ++ (name, record { name = n; ty = ty; monomorphic = monomorphic }) ∷ [])
     (list : new.consts.items ≡ old.consts.items ++ record { name = n; ty = ty } ∷ []) (facts : new.facts.items ≡ old.facts.items) (goal : new.goal ≡ old.goal) where
   listed : declared_in new.base new.consts.items ≡ consts_in new.base new.scope.consts
   listed =
       let before : declared_in new.base old.consts.items ≡ consts_in new.base old.scope.consts = declared_same old.consts.items k is.declared ∙ is.consts ∙ sym (constants_same old.scope.consts k is.scope.consts) in
       let one : List (List ℕ × Ty) → List ℕ → List (List ℕ × Ty) = λ l m. l ++ (m, type_tree new.base.types ty) ∷ [] in
       ap (λ l. declared_in new.base l) list ∙ declared_more new.base old.consts.items (record { name = n; ty = ty }) ∙ ap (λ l. one l (text_of new.base.types n)) before ∙ ap (one (consts_in new.base old.scope.consts)) text.text
-      ∙ sym (ap (λ l. consts_in new.base l) consts ∙ consts_more new.base old.scope.consts name (record { name = n; ty = ty; ground = ground }))
+      ∙ sym (ap (λ l. consts_in new.base l) consts ∙ consts_more new.base old.scope.consts name (record { name = n; ty = ty; monomorphic = monomorphic }))
 
   pub constant_declared : AreItems new
   constant_declared =
@@ -124,7 +124,7 @@ module _ (old new : Made) (name : List ℕ) (n ty : ℕ) (ground : Bool) (k : Ke
       record {
         scope = record {
           types = subst (λ l. AreConstructors new.base l) (sym types) scope.types;
-          consts = subst (λ l. AreConstants new.base l) (sym consts) (constants_more new.base old.scope.consts name (record { name = n; ty = ty; ground = ground }) scope.consts (record { name_is = text; there = k.types ty there; ground = tested }));
+          consts = subst (λ l. AreConstants new.base l) (sym consts) (constants_more new.base old.scope.consts name (record { name = n; ty = ty; monomorphic = monomorphic }) scope.consts (record { name_is = text; there = k.types ty there; monomorphic = tested }));
           binders = subst (λ l. AreBound new.base l) (sym binders) scope.binders;
         };
         outermost = binders ∙ is.outermost;
@@ -139,7 +139,7 @@ module _ (old new : Made) (name : List ℕ) (n ty : ℕ) (ground : Bool) (k : Ke
       let names : types_in new.scope.types ≡ types_in old.scope.types = ap (λ l. types_in l) types in
       let one : List (List ℕ × Ty) → Ty → List (List ℕ × Ty) = λ l t. l ++ (name, t) ∷ [] in
       let said : consts_in new.base new.scope.consts ≡ consts_in old.base old.scope.consts ++ (name, type_tree old.base.types ty) ∷ [] =
-      ap (λ l. consts_in new.base l) consts ∙ consts_more new.base old.scope.consts name (record { name = n; ty = ty; ground = ground }) ∙ ap (λ l. one l (type_tree new.base.types ty)) (constants_same old.scope.consts k is.scope.consts)
+      ap (λ l. consts_in new.base l) consts ∙ consts_more new.base old.scope.consts name (record { name = n; ty = ty; monomorphic = monomorphic }) ∙ ap (λ l. one l (type_tree new.base.types ty)) (constants_same old.scope.consts k is.scope.consts)
       ∙ ap (one (consts_in old.base old.scope.consts)) (k.type_trees ty there) in
       let terms : terms_at new.base new.facts.items ≡ terms_at old.base old.facts.items = ap (λ l. terms_at new.base l) facts ∙ terms_same old.facts.items k is.facts in
       let one_goal : option_map (λ t. term_tree new.base t) new.goal ≡ option_map (λ t. term_tree old.base t) old.goal = ap (λ g. option_map (λ t. term_tree new.base t) g) goal ∙ goal_same old.base new.base old.goal k is.goal in

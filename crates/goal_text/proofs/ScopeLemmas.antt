@@ -40,7 +40,7 @@ constructors_kept [] k all = tt
 constructors_kept (c ∷ cs) k all = (constructor_kept k all.0, constructors_kept cs k all.1)
 
 pub constant_kept : {s u : TermStore} {name : List ℕ} {c : Constant} → Keeps s u → IsConstant s name c → IsConstant u name c
-constant_kept k h = record { name_is = name_kept k h.name_is; there = k.types _ h.there; ground = h.ground ∙ ap is_ground (sym (k.type_trees _ h.there)) }
+constant_kept k h = record { name_is = name_kept k h.name_is; there = k.types _ h.there; monomorphic = h.monomorphic ∙ ap is_ground (sym (k.type_trees _ h.there)) }
 
 constants_kept : {s u : TermStore} (cs : List (List ℕ × Constant)) → Keeps s u → AllByRecursion (λ c. IsConstant s c.0 c.1) cs → AllByRecursion (λ c. IsConstant u c.0 c.1) cs
 constants_kept [] k all = tt

@@ -69,7 +69,7 @@ AreConstructors s types = AllByRecursion (λ c. IsConstructor s c.0 c.1) types
 pub record IsConstant (s : TermStore) (name : List ℕ) (c : Constant) : Type 0 where
   pub name_is : IsNameOf s c.name name
   pub there : HasType s.types c.ty
-  pub ground : c.ground ≡ is_ground (type_tree s.types c.ty)
+  pub monomorphic : c.monomorphic ≡ is_ground (type_tree s.types c.ty)
 
 abbrev pub AreConstants : TermStore → List (List ℕ × Constant) → Type 0
 AreConstants s consts = AllByRecursion (λ c. IsConstant s c.0 c.1) consts

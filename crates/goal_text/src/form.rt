@@ -64,7 +64,7 @@ fn application(base: &Base, scope: &Scope, forest: &Forest, first: u32, second: 
     }
     match constant_of(base, &scope.consts, text) {
         Some(c) => {
-            if c.ground {
+            if c.monomorphic {
                 applied
             } else {
                 Entered {

@@ -114,13 +114,13 @@ fn declare_constant(items: &mut Items, name: &[u8], ty: TypeId) -> Result<(), Go
 {
     let number = items.base.name(name)?;
     let own = Vec::from_slice(items.base.allocator(), name)?;
-    let ground = is_ground(&items.base, ty);
+    let monomorphic = is_ground(&items.base, ty);
     items.scope.consts.declare(
         own,
         Constant {
             name: number,
             ty,
-            ground,
+            monomorphic,
         },
     )?;
     items.consts.push(Declared { name: number, ty })?;

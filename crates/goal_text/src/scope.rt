@@ -24,7 +24,7 @@ pub struct Constructor {
 pub struct Constant {
     pub name: NameId,
     pub ty: TypeId,
-    pub ground: bool,
+    pub monomorphic: bool,
 }
 
 /// The declared names and the bound variables.

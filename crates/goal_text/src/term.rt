@@ -46,7 +46,7 @@ fn named(base: &mut Base, scope: &Scope, at: u32, text: &[u8]) -> Result<TermId,
     }
     match constant_of(base, &scope.consts, text) {
         Some(c) => {
-            if c.ground {
+            if c.monomorphic {
                 typed(base, Node::Const(c.name, c.ty))
             } else {
                 refuse(at, GoalKind::FreeTypeVariable)
