@@ -1,10 +1,10 @@
 -- Bodies of lambdas whose variable is Bound 0.
-use Rattle.std.proofs.Common.{◌≡◌, ◌∙◌, ◌<◌, ◌≤◌, refl, sym, subst, ap, ap₂, ℕ, List, arith}
+use Rattle.std.proofs.Common.{◌≡◌, ◌∙◌, refl, sym, subst, ap, ap₂, ℕ, List, arith}
 use Rattle.std.specs.Prelude.{codes}
 use Rattle.hol_types.specs.Ty.{Ty, BoolTy, FunTy}
 use Rattle.hol_terms.specs.Term.{Term, BoundTm, ConstTm, AppTm, LamTm, Typed, BoundsFit, ty_of, result_ty}
 use Rattle.hol_terms.specs.Substitution.{LooseBelow, IsClosed, subst_bound}
-use Rattle.hol_terms.specs.Formula.{IsTerm, IsFormula}
+use Rattle.hol_terms.specs.Formula.{IsTerm}
 use Rattle.hol_terms.specs.Constants.{FunTy2, equation, apply_two}
 use Rattle.hol_terms.proofs.FormulaLemmas.{Has}
 use Rattle.hol_terms.proofs.DerivedFormulas.{body_has}

@@ -1,8 +1,8 @@
 -- A term for a variable that it defines.
-use Rattle.std.proofs.Common.{◌≡◌, ◌∙◌, ◌++◌, refl, sym, subst, ap, List}
+use Rattle.std.proofs.Common.{◌≡◌, ◌∙◌, ◌++◌, refl, subst, ap, List}
 use Rattle.hol_types.specs.Ty.{Ty}
-use Rattle.hol_terms.specs.Term.{Term, FreeTm, BoundTm, ConstTm, NumTm, AppTm, LamTm, ty_of}
-use Rattle.hol_terms.specs.Substitution.{IsClosed, IsFreeVariable, subst_bound, subst_free, close_free}
+use Rattle.hol_terms.specs.Term.{Term, FreeTm, BoundTm, ConstTm, NumTm, AppTm, LamTm}
+use Rattle.hol_terms.specs.Substitution.{IsClosed, IsFreeVariable, subst_free}
 use Rattle.hol_terms.specs.Formula.{NotFreeIn, NotFreeInAny, SameMembers}
 use Rattle.hol_terms.specs.Constants.{equation, implication, for_all}
 use Rattle.hol_terms.specs.Derivable.{abstraction, applied}

@@ -1,14 +1,14 @@
 -- What the rules of equality say, on trees.
-use Rattle.std.proofs.Common.{◌≡◌, ◌∙◌, ◌++◌, [], refl, sym, subst, ap, ℕ, List, Bool, true, ◌&&◌}
+use Rattle.std.proofs.Common.{◌≡◌, ◌∙◌, ◌++◌, [], refl, sym, subst, ℕ, List, Bool, true, ◌&&◌}
 use Rattle.hol_types.specs.Ty.{Ty, BoolTy, FunTy}
 use Rattle.hol_terms.specs.Term.{Term, FreeTm, BoundTm, ConstTm, NumTm, AppTm, LamTm, Typed, ty_of}
 use Rattle.hol_terms.specs.TermStore.{term_tree}
 use Rattle.hol_terms.specs.Substitution.{IsClosed, IsFreeVariable, subst_bound, close_free}
-use Rattle.hol_terms.specs.Formula.{In, IsTerm, IsFormula, SameMembers, NotFreeIn, NotFreeInAny, Within}
+use Rattle.hol_terms.specs.Formula.{IsTerm, SameMembers, NotFreeInAny, Within}
 use Rattle.hol_terms.specs.Constants.{equation}
 use Rattle.hol_terms.specs.Derivable.{abstraction}
-use Rattle.hol_terms.proofs.SetLemmas.{same_trans, same_refl, in_append_left, in_append_right, in_append_either, within_context, within_from_same, same_sym}
-use Rattle.hol_terms.proofs.FormulaLemmas.{Has, equation_left}
+use Rattle.hol_terms.proofs.SetLemmas.{same_refl, within_context, within_from_same, same_sym}
+use Rattle.hol_terms.proofs.FormulaLemmas.{Has}
 use Rattle.hol_terms.proofs.SubstitutionLemmas.{closed_ty, closed_back, closed_loose, closed_typed, closed_fits, closed_removes}
 use Rattle.hol_terms.proofs.QuantifierRules.{free_in_none, free_in_each}
 use Rattle.lcf_kernel.specs.RuleForms.{IsRedex, IsGeneral, Agree}

@@ -1,5 +1,5 @@
 -- Hypotheses by number and by tree.
-use Rattle.std.proofs.Common.{◌≡◌, ◌++◌, ◌∙◌, ◌↔◌, sym, subst, ap, ⊎_elim, IsTrue, ℕ, List, Bool, true, false}
+use Rattle.std.proofs.Common.{◌≡◌, ◌++◌, ◌∙◌, ◌↔◌, sym, subst, ⊎_elim, IsTrue, ℕ, List, Bool}
 use Rattle.hol_terms.specs.Term.{Term}
 use Rattle.hol_terms.specs.TermStore.{TermStore, HasTerm, TermsApart, term_tree}
 use Rattle.hol_terms.specs.Formula.{In, SameMembers}

@@ -1,6 +1,6 @@
 -- Instances by generalisation.
-use Rattle.std.proofs.Common.{◌≡◌, ◌∙◌, ◌++◌, ◌∷◌, ◌<◌, ◌≤◌, ◌+◌, [], refl, sym, subst, ap, ap₂, ℕ, zero, suc, List, length, take, drop, get_or, drop-cons, cond, Bool as Truth, true, false, Some, None, unwrap_or, arith, eq-eqb, add-one}
-use Rattle.std.specs.Prelude.{slice_get, fold}
+use Rattle.std.proofs.Common.{◌≡◌, ◌∙◌, ◌++◌, ◌∷◌, ◌<◌, ◌≤◌, ◌+◌, [], refl, sym, subst, ap, ap₂, ℕ, zero, suc, List, length, take, drop, get_or, drop-cons, cond, Bool as Truth, true, false, Some, unwrap_or, arith, eq-eqb, add-one}
+use Rattle.std.specs.Prelude.{slice_get}
 use Rattle.std.specs.Map.{lookup}
 use Rattle.std.specs.List.{AllByRecursion}
 use Rattle.std.proofs.lemmas.List.{take_more}
@@ -17,15 +17,14 @@ use Rattle.hol_terms.specs.declared.node.FreeKind.TheVariants.{Open, Symbol, Lif
 use Rattle.hol_terms.proofs.TermEqLemmas.{term_eq_sound}
 use Rattle.hol_terms.proofs.SubstitutionLemmas.{opened_same, loose_more, closed_loose}
 use Rattle.hol_match.specs.Instance.{IsSchematic, Substitutable, IsInstantiation, instance_by}
-use Rattle.hol_match.specs.Inst.{Pairs, HasInst, inst_tree, term_for}
-use Rattle.lcf_kernel.specs.KernelState.{KernelState, HasThm, concl_of, hyps_of, all_hyps_of, context_of, bare_of, KeepsAll}
+use Rattle.hol_match.specs.Inst.{Pairs, inst_tree, term_for}
+use Rattle.lcf_kernel.specs.KernelState.{KernelState, HasThm, concl_of, hyps_of, all_hyps_of, bare_of, KeepsAll}
 use Rattle.lcf_kernel.specs.RuleForms.{IsGeneral}
 use Rattle.lcf_kernel.proofs.KeepLemmas.{keeps_all_trans, keeps_all_same}
 use Rattle.hol_terms.proofs.SetLemmas.{same_refl}
 use Rattle.hol_logic.specs.States.{States}
 use Rattle.hol_logic.specs.DerivedForms.{all_of}
 use Rattle.hol_logic.specs.Instances.{AreGeneral, generalised, pair_at, IsAllAt}
-use Rattle.hol_logic.proofs.StateLemmas.{states_as}
 use Rattle.hol_logic.proofs.EquationLemmas.{general_same, general_after, states_through}
 
 -- ---- instances of a body

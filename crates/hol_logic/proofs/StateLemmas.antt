@@ -1,5 +1,5 @@
 -- What records state, as a kernel goes on.
-use Rattle.std.proofs.Common.{◌≡◌, ◌++◌, ◌∙◌, ◌∷◌, [], refl, sym, subst, ap, ⊎_elim, ℕ, List, Bool, true, false, ◌&&◌, Result, Ok, Err, IfErr}
+use Rattle.std.proofs.Common.{◌≡◌, ◌++◌, ◌∙◌, [], refl, sym, subst, ap, ⊎_elim, ℕ, List, Bool, true, false, ◌&&◌, Result, Ok, Err, IfErr}
 use Rattle.std.specs.Prelude.{IsErrAnd}
 use Rattle.lcf_kernel.specs.declared.rules.RuleFault.{RuleFault}
 use Rattle.lcf_kernel.specs.declared.rules.RuleFault.TheVariants.{Shape}
@@ -8,9 +8,9 @@ use Rattle.hol_terms.specs.Term.{Term, LamTm, ty_of}
 use Rattle.hol_types.specs.Ty.{Ty, FunTy}
 use Rattle.hol_terms.specs.Constants.{equation, implication}
 use Rattle.hol_terms.specs.Substitution.{subst_bound}
-use Rattle.hol_terms.specs.TermStore.{TermStore, HasTerm, term_tree}
+use Rattle.hol_terms.specs.TermStore.{HasTerm, term_tree}
 use Rattle.hol_terms.specs.Formula.{In, IsFormula, SameMembers}
-use Rattle.hol_terms.proofs.SetLemmas.{same_refl, same_trans, same_sym, in_append_left, in_append_right, in_append_either}
+use Rattle.hol_terms.proofs.SetLemmas.{same_refl, same_trans, in_append_left, in_append_right, in_append_either}
 use Rattle.hol_formulas.specs.declared.formula.Sides.{Sides}
 use Rattle.lcf_kernel.specs.declared.thm.Thm.{Thm}
 use Rattle.hol_formulas.specs.Constants.{IsAt}

@@ -1,8 +1,7 @@
 -- Instances of a formula by generalisation.
 use Rattle.std.specs.Prelude.{◌≡◌, ℕ, List, fold, slice_index_or}
 use Rattle.std.specs.List.{AllByRecursion}
-use Rattle.hol_types.specs.Ty.{BoolTy}
-use Rattle.hol_terms.specs.Term.{Term, NumTm, LamTm, ty_of}
+use Rattle.hol_terms.specs.Term.{Term, LamTm, ty_of}
 use Rattle.hol_terms.specs.Formula.{NotFreeInAny}
 use Rattle.hol_terms.specs.Constants.{true_tm, for_all}
 use Rattle.hol_match.specs.Inst.{Pairs}

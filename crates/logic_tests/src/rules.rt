@@ -1,11 +1,14 @@
 //! Each derived rule once where it applies, and once where its condition fails. The expected values are the rules, worked by
-//! hand. Here x is a variable of type Bool.
+//! hand. Here x is a
+//! Schematic variable of type Bool.
 ghost use Rattle.std.specs.Prelude.{◌≡◌, ℕ, IfOk};
 ghost use Rattle.hol_terms.specs.Substitution.{IsClosed};
 ghost use Rattle.hol_terms.specs.TermStore.{HasTerm, Keeps, term_tree};
 ghost use Rattle.lcf_kernel.specs.KernelState.{HasThm, records_of};
+ghost use Rattle.hol_match.specs.Inst.{HasInst};
 
-use hol_logic::{cong, cut, drop_definition, sym, trans, under_all, under_ex};
+use hol_logic::{cong, cut, drop_definition, instance, sym, trans, under_all, under_ex};
+use hol_match::{Inst, match_term};
 use hol_terms::{Base, FreeKind, Frozen, Node, TermId, Terms};
 use hol_types::TypeNode;
 use lcf_kernel::{Kernel, RuleFault, ThmId};
@@ -37,7 +40,7 @@ fn variable(k: &mut Kernel<'_>) -> Result<TermId, Fail>
     let name = k.name(b"x")?;
     let truth = k.constants().truth;
     let ty = k.ty(truth);
-    let v = k.intern(Node::Free(FreeKind::Symbol, name, ty))?;
+    let v = k.intern(Node::Free(FreeKind::Schematic, name, ty))?;
     Ok(v)
 }
 
@@ -81,7 +84,11 @@ fn quantified(k: &mut Kernel<'_>, name: &[u8], holds: bool) -> Result<TermId, Fa
     let head = quantifier(k, name)?;
     let constants = k.constants();
     let bool = k.ty(constants.truth);
-    let body = if holds { constants.truth } else { constants.falsity };
+    let body = if holds {
+        constants.truth
+    } else {
+        constants.falsity
+    };
     let p = k.intern(Node::Lam(bool, body))?;
     let t = k.intern(Node::App(head, p))?;
     Ok(t)
@@ -276,6 +283,38 @@ fn definitions(rt: &impl Abort, k: &mut Kernel<'_>) -> Result<(), Fail> {
     Ok(())
 }
 
+// `true` for x.
+#[tactic(auto, using(hol_terms::proofs::KeepsLemmas::keeps_trans, crate::proofs::TestLemmas::has_before))]
+fn truth_for_x(k: &mut Kernel<'_>) -> Result<Inst, Fail>
+    ensures terms { IfOk result (λ i. HasInst k.new.store k.new.store i) }
+    ensures records { (t : ℕ) → HasThm k.old t → HasThm k.new t }
+{
+    let x = variable(k)?;
+    let truth = k.constants().truth;
+    let found = match_term(k, x, truth)?;
+    Ok(found.ok_or("no match")?)
+}
+
+// From x = x, true = true.
+#[tactic(auto, using(crate::proofs::TestLemmas::has_kept, crate::proofs::TestLemmas::has_before))]
+fn instances(rt: &impl Abort, k: &mut Kernel<'_>) -> Result<(), Fail> {
+    let x = variable(k)?;
+    assert!(rt; k.is_closed(x));
+    let same = k.refl(x)?;
+    let inst = truth_for_x(k)?;
+    let r = instance(k, same, &inst)?;
+    assert_equation(rt, k, r, Formula::True, Formula::True, 0)?;
+    Ok(())
+}
+
+// x is free in the hypothesis true = x.
+fn no_instances(rt: &impl Abort, k: &mut Kernel<'_>) -> Result<(), Fail> {
+    let a = assumed(rt, k, Formula::True, Formula::X)?;
+    let inst = truth_for_x(k)?;
+    assert_eq!(rt; instance(k, a, &inst), Err(RuleFault::Shape));
+    Ok(())
+}
+
 fn each_rule(rt: &impl Abort, k: &mut Kernel<'_>) -> Result<(), Fail> {
     equations(rt, k)?;
     congruences(rt, k)?;
@@ -284,7 +323,9 @@ fn each_rule(rt: &impl Abort, k: &mut Kernel<'_>) -> Result<(), Fail> {
     all_values(rt, k)?;
     some_value(rt, k)?;
     bound_hypotheses(rt, k)?;
-    definitions(rt, k)
+    definitions(rt, k)?;
+    instances(rt, k)?;
+    no_instances(rt, k)
 }
 
 #[tactic(auto, using(crate::proofs::TestLemmas::no_formulas_there, crate::proofs::TestLemmas::no_context))]

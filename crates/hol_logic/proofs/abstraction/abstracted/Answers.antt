@@ -1,13 +1,8 @@
-use Rattle.std.proofs.Common.{◌≡◌, ◌∙◌, ◌++◌, sym, subst}
-use Rattle.hol_types.specs.Ty.{Ty, FunTy}
-use Rattle.hol_terms.specs.Term.{Term, AppTm, ty_of}
+use Rattle.std.proofs.Common.{◌∙◌}
+use Rattle.hol_terms.specs.Term.{ty_of}
 use Rattle.hol_terms.specs.TermStore.{term_tree}
-use Rattle.hol_terms.specs.Constants.{equation}
 use Rattle.hol_terms.specs.Derivable.{abstraction}
 use Rattle.hol_terms.proofs.SetLemmas.{same_trans}
-use Rattle.hol_terms.proofs.SubstitutionLemmas.{closed_removes}
-use Rattle.lcf_kernel.specs.KernelState.{concl_of, hyps_of, all_hyps_of, bare_of}
-use Rattle.lcf_kernel.specs.RuleForms.{IsGeneral}
 use Rattle.lcf_kernel.proofs.KeepLemmas.{keeps_all_trans}
 use Rattle.hol_logic.proofs.StateLemmas.{term_kept, tree_kept, passed_shape}
 use Rattle.hol_logic.proofs.EquationLemmas.{agree_from, agree_says, general_same, general_after}

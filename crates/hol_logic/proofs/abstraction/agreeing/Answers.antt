@@ -1,14 +1,11 @@
-use Rattle.std.proofs.Common.{◌≡◌, ◌∙◌, sym, subst, refl}
-use Rattle.hol_terms.specs.Term.{Term, AppTm, ty_of}
+use Rattle.std.proofs.Common.{sym, subst}
+use Rattle.hol_terms.specs.Term.{AppTm, ty_of}
 use Rattle.hol_terms.specs.TermStore.{term_tree}
 use Rattle.hol_terms.specs.Substitution.{IsFreeVariable}
 use Rattle.hol_terms.specs.Formula.{IsTerm}
-use Rattle.hol_terms.specs.Constants.{equation}
 use Rattle.hol_terms.specs.Derivable.{abstraction}
-use Rattle.lcf_kernel.specs.KernelState.{concl_of, hyps_of, bare_of}
 use Rattle.lcf_kernel.proofs.KeepLemmas.{keeps_all_trans}
-use Rattle.hol_logic.specs.States.{States}
-use Rattle.hol_logic.proofs.StateLemmas.{equates_keep, states_keep, term_kept, tree_kept, at_kept, bare_keeps, left_has, right_has}
+use Rattle.hol_logic.proofs.StateLemmas.{equates_keep, states_keep, term_kept, tree_kept, at_kept, left_has, right_has}
 use Rattle.hol_logic.proofs.EquationLemmas.{equates_states, turned_states, turned_by, equal_of, equal_from}
 use Rattle.hol_logic.proofs.abstraction.agreeing.Goals as goal
 

@@ -1,4 +1,3 @@
-use Rattle.std.proofs.Common.{◌∙◌}
 use Rattle.hol_terms.specs.TermStore.{term_tree}
 use Rattle.lcf_kernel.proofs.KeepLemmas.{keeps_all_trans}
 use Rattle.hol_logic.proofs.StateLemmas.{term_kept, tree_kept}

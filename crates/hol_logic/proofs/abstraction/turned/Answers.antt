@@ -1,15 +1,14 @@
 use Rattle.std.proofs.Common.{◌≡◌, ◌∙◌, sym, subst}
-use Rattle.hol_terms.specs.Term.{Term, AppTm, ty_of}
+use Rattle.hol_terms.specs.Term.{AppTm, ty_of}
 use Rattle.hol_terms.specs.TermStore.{term_tree}
 use Rattle.hol_terms.specs.Substitution.{IsClosed, close_free}
 use Rattle.hol_terms.specs.Formula.{IsFormula}
 use Rattle.hol_terms.specs.Constants.{equation}
 use Rattle.hol_terms.specs.Derivable.{abstraction}
 use Rattle.hol_terms.proofs.FormulaLemmas.{equation_left}
-use Rattle.lcf_kernel.specs.KernelState.{concl_of, hyps_of, bare_of}
+use Rattle.lcf_kernel.specs.KernelState.{concl_of}
 use Rattle.lcf_kernel.proofs.KeepLemmas.{keeps_all_trans}
-use Rattle.hol_logic.specs.States.{States}
-use Rattle.hol_logic.proofs.StateLemmas.{passed_on, states_as}
+use Rattle.hol_logic.proofs.StateLemmas.{passed_on}
 use Rattle.hol_logic.proofs.EquationLemmas.{itself_closed, redex_says, chain_says, reversed_says, after_none, states_through}
 use Rattle.hol_logic.proofs.abstraction.turned.Goals as goal
 

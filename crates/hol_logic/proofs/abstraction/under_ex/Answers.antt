@@ -1,13 +1,11 @@
-use Rattle.std.proofs.Common.{◌≡◌, ◌∙◌, sym, subst, ap}
+use Rattle.std.proofs.Common.{◌∙◌, ap}
 use Rattle.std.specs.Prelude.{codes}
-use Rattle.hol_types.specs.Ty.{Ty, BoolTy, FunTy}
-use Rattle.hol_terms.specs.Term.{Term, BoundTm, ty_of}
+use Rattle.hol_types.specs.Ty.{BoolTy, FunTy}
+use Rattle.hol_terms.specs.Term.{ty_of}
 use Rattle.hol_terms.specs.TermStore.{term_tree}
 use Rattle.hol_terms.specs.Constants.{equation, exists}
 use Rattle.hol_terms.specs.Derivable.{abstraction}
-use Rattle.lcf_kernel.specs.KernelState.{concl_of, hyps_of, all_hyps_of, bare_of}
 use Rattle.lcf_kernel.proofs.KeepLemmas.{keeps_all_trans}
-use Rattle.hol_logic.specs.States.{States}
 use Rattle.hol_logic.proofs.StateLemmas.{states_keep, tree_kept, passed_shape}
 use Rattle.hol_logic.proofs.EquationLemmas.{equal_from, type_is, under_says, states_through}
 use Rattle.hol_logic.proofs.BodyLemmas.{lambda_is, in_app, in_const, in_place}

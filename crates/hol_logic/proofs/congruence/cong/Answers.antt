@@ -1,6 +1,5 @@
 use Rattle.std.proofs.Common.{◌≡◌, ◌∙◌, ap, sym, true, false}
-use Rattle.hol_types.specs.Ty.{FunTy}
-use Rattle.hol_terms.specs.Term.{Term, ty_of, result_ty}
+use Rattle.hol_terms.specs.Term.{ty_of, result_ty}
 use Rattle.hol_terms.specs.TermStore.{term_tree}
 use Rattle.hol_terms.specs.Constants.{equation}
 use Rattle.hol_logic.proofs.StateLemmas.{congruent_takes}

@@ -1,16 +1,12 @@
-use Rattle.std.proofs.Common.{◌≡◌, ◌∙◌, ◌++◌, ◌&&◌, ap, sym, subst, refl}
-use Rattle.hol_types.specs.Ty.{FunTy}
-use Rattle.hol_terms.specs.Term.{Term, BoundTm, AppTm, ty_of, result_ty}
+use Rattle.std.proofs.Common.{◌∙◌, refl}
 use Rattle.hol_terms.specs.TermStore.{term_tree}
-use Rattle.hol_terms.specs.Constants.{equation}
 use Rattle.hol_terms.specs.Formula.{SameMembers}
 use Rattle.hol_terms.proofs.SetLemmas.{same_refl}
-use Rattle.lcf_kernel.specs.KernelState.{concl_of, hyps_of, bare_of}
+use Rattle.lcf_kernel.specs.KernelState.{hyps_of, bare_of}
 use Rattle.lcf_kernel.proofs.KeepLemmas.{keeps_all_trans}
-use Rattle.hol_logic.specs.DerivedForms.{Takes}
 use Rattle.hol_logic.proofs.StateLemmas.{equates_keep, states_keep, states_as, term_kept, tree_kept, bare_keeps, left_has, right_has, same_swap, and_swap}
 use Rattle.hol_logic.proofs.HypothesisLemmas.{same_both}
-use Rattle.hol_logic.proofs.BodyLemmas.{lambda_is, in_equation, in_app_of, in_place, in_closed, opened_argument, opened_beside, congruent_body, congruent_start}
+use Rattle.hol_logic.proofs.BodyLemmas.{congruent_body, congruent_start}
 use Rattle.hol_logic.proofs.congruence.congruent.Goals as goal
 
 pub of_functions-requires-clause-argument : goal.of_functions-requires-clause-argument

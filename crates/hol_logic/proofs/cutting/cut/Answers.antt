@@ -1,7 +1,5 @@
-use Rattle.std.proofs.Common.{◌≡◌, ◌∙◌, ◌++◌, ◌&&◌, sym, subst, ap, refl}
-use Rattle.hol_types.specs.Ty.{BoolTy}
+use Rattle.std.proofs.Common.{◌≡◌, ◌∙◌, ◌&&◌, sym, subst, ap, refl}
 use Rattle.hol_terms.specs.Term.{Term, ty_of}
-use Rattle.hol_terms.specs.TermStore.{term_tree}
 use Rattle.hol_terms.specs.Substitution.{IsClosed}
 use Rattle.hol_terms.specs.Constants.{implication}
 use Rattle.hol_terms.specs.Formula.{In, SameMembers, without}

@@ -1,7 +1,6 @@
 use Rattle.std.proofs.Common.{◌∙◌, ◌↔◌, subst, IsTrue}
 use Rattle.hol_terms.specs.TermStore.{term_tree}
 use Rattle.hol_terms.specs.Formula.{In}
-use Rattle.hol_formulas.specs.Formulas.{trees}
 use Rattle.lcf_kernel.proofs.IdLemmas.{stands-searched}
 use Rattle.hol_logic.proofs.HypothesisLemmas.{hypothesis_found}
 use Rattle.hol_logic.proofs.cutting.is_hypothesis.Goals as goal

@@ -1,17 +1,15 @@
-use Rattle.std.proofs.Common.{◌≡◌, ◌∙◌, ◌++◌, sym, subst, refl}
-use Rattle.hol_types.specs.Ty.{BoolTy}
-use Rattle.hol_terms.specs.Term.{Term, ty_of}
+use Rattle.std.proofs.Common.{◌≡◌, ◌∙◌, sym, subst}
+use Rattle.hol_terms.specs.Term.{ty_of}
 use Rattle.hol_terms.specs.TermStore.{term_tree}
 use Rattle.hol_terms.specs.Substitution.{IsClosed}
-use Rattle.hol_terms.specs.Formula.{IsFormula, SameMembers, without}
+use Rattle.hol_terms.specs.Formula.{IsFormula, without}
 use Rattle.hol_terms.specs.Constants.{equation, implication, for_all}
 use Rattle.hol_terms.specs.Derivable.{abstraction}
 use Rattle.hol_terms.proofs.SetLemmas.{same_trans, same_sym}
 use Rattle.hol_terms.proofs.FormulaLemmas.{equation_right, implication_is_formula}
-use Rattle.lcf_kernel.specs.KernelState.{concl_of, hyps_of, context_of, bare_of}
-use Rattle.lcf_kernel.specs.RuleForms.{IsUniversal}
+use Rattle.lcf_kernel.specs.KernelState.{concl_of, hyps_of, context_of}
 use Rattle.lcf_kernel.proofs.KeepLemmas.{keeps_all_trans}
-use Rattle.hol_logic.proofs.StateLemmas.{term_kept, tree_kept, bare_keeps, passed_shape}
+use Rattle.hol_logic.proofs.StateLemmas.{term_kept, tree_kept, passed_shape}
 use Rattle.hol_logic.proofs.DefinitionLemmas.{definition_gives, universal_says, general_of}
 use Rattle.hol_logic.proofs.definition.defined.Goals as goal
 

@@ -1,4 +1,3 @@
-use Rattle.std.proofs.Common.{◌≡◌, ◌∙◌, refl}
 use Rattle.lcf_kernel.proofs.KeepLemmas.{keeps_all_trans}
 use Rattle.hol_logic.proofs.StateLemmas.{states_keep, beside_none, led_to}
 use Rattle.hol_logic.proofs.EquationLemmas.{states_through}

@@ -1,7 +1,6 @@
-use Rattle.std.proofs.Common.{◌≡◌, ◌∙◌, ap, sym, subst, refl}
-use Rattle.hol_terms.specs.Term.{Term, ty_of}
+use Rattle.std.proofs.Common.{◌∙◌, sym, subst}
+use Rattle.hol_terms.specs.Term.{ty_of}
 use Rattle.hol_terms.specs.TermStore.{term_tree}
-use Rattle.hol_terms.specs.Constants.{equation}
 use Rattle.hol_terms.specs.Substitution.{IsClosed, subst_bound}
 use Rattle.lcf_kernel.proofs.KeepLemmas.{keeps_all_trans}
 use Rattle.hol_logic.proofs.StateLemmas.{equates_keep, term_kept, tree_kept, bare_keeps, left_has, beside_none}

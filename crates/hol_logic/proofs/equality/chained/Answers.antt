@@ -1,5 +1,5 @@
 use Rattle.std.proofs.Common.{◌≡◌, ◌∙◌, ap, sym}
-use Rattle.hol_terms.specs.Term.{Term, BoundTm, ty_of}
+use Rattle.hol_terms.specs.Term.{ty_of}
 use Rattle.hol_terms.specs.TermStore.{term_tree}
 use Rattle.hol_terms.specs.Constants.{equation}
 use Rattle.lcf_kernel.specs.KernelState.{hyps_of, bare_of}

@@ -1,10 +1,9 @@
-use Rattle.std.proofs.Common.{◌≡◌, ◌∙◌, ◌++◌, ap, sym, subst}
-use Rattle.hol_terms.specs.Term.{Term, LamTm, ty_of}
-use Rattle.hol_terms.specs.Substitution.{IsClosed, subst_bound}
+use Rattle.std.proofs.Common.{◌≡◌, ◌∙◌, ap, sym, subst}
+use Rattle.hol_terms.specs.Term.{LamTm, ty_of}
+use Rattle.hol_terms.specs.Substitution.{IsClosed}
 use Rattle.hol_terms.specs.TermStore.{term_tree}
 use Rattle.hol_terms.specs.Constants.{equation}
-use Rattle.hol_terms.specs.Formula.{SameMembers}
-use Rattle.lcf_kernel.specs.KernelState.{concl_of, hyps_of}
+use Rattle.lcf_kernel.specs.KernelState.{concl_of}
 use Rattle.lcf_kernel.proofs.KeepLemmas.{keeps_all_trans}
 use Rattle.hol_logic.proofs.StateLemmas.{beside_kept, substituted, passed_on}
 use Rattle.hol_logic.proofs.equality.rewritten.Goals as goal

@@ -1,7 +1,5 @@
-use Rattle.std.proofs.Common.{◌≡◌, ◌∙◌, ap, sym, subst, arith, tests}
-use Rattle.hol_terms.specs.Term.{Term, ty_of}
+use Rattle.std.proofs.Common.{◌≡◌, ap, arith, tests}
 use Rattle.hol_terms.specs.TermStore.{term_tree}
-use Rattle.hol_terms.specs.Constants.{equation}
 use Rattle.hol_logic.proofs.StateLemmas.{chain_sides, chain_stated}
 use Rattle.hol_logic.proofs.equality.trans.Goals as goal
 

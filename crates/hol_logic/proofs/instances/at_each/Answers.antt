@@ -1,4 +1,4 @@
-use Rattle.std.proofs.Common.{◌≡◌, ◌<◌, ◌≤◌, ◌∙◌, ◌+◌, ◌-◌, sym, subst, length, arith}
+use Rattle.std.proofs.Common.{◌≡◌, ◌∙◌, ◌+◌, ◌-◌, sym, subst, arith}
 use Rattle.lcf_kernel.specs.KernelState.{concl_of, hyps_of, bare_of}
 use Rattle.lcf_kernel.proofs.KeepLemmas.{keeps_all_trans}
 use Rattle.hol_match.specs.Inst.{Pairs, inst_tree}
@@ -6,7 +6,7 @@ use Rattle.hol_match.proofs.ApplyLemmas.{pairs_kept, terms_kept}
 use Rattle.hol_terms.specs.Substitution.{subst_bound}
 use Rattle.hol_logic.specs.States.{States}
 use Rattle.hol_logic.specs.Instances.{IsAllAt, pair_at}
-use Rattle.hol_logic.proofs.InstanceLemmas.{IsInstantiated, instantiated_start, instantiated_next, instantiated_end, next_all, pairs_long, pairs_stand}
+use Rattle.hol_logic.proofs.InstanceLemmas.{IsInstantiated, instantiated_start, instantiated_next, next_all, pairs_long, pairs_stand}
 use Rattle.hol_logic.proofs.instances.at_each.Goals as goal
 
 pub at_one-requires-clause-thm : goal.at_one-requires-clause-thm

@@ -1,4 +1,4 @@
-use Rattle.std.proofs.Common.{◌≡◌, ◌∙◌, sym, subst, ap, arith}
+use Rattle.std.proofs.Common.{◌≡◌, ◌∙◌, sym, subst, ap}
 use Rattle.hol_types.specs.Ty.{Ty}
 use Rattle.hol_terms.specs.Term.{Term, LamTm, ty_of}
 use Rattle.hol_terms.specs.TermStore.{term_tree}
@@ -6,7 +6,6 @@ use Rattle.hol_terms.specs.Substitution.{subst_bound}
 use Rattle.hol_terms.specs.Constants.{for_all}
 use Rattle.lcf_kernel.specs.KernelState.{concl_of, hyps_of, bare_of}
 use Rattle.hol_logic.specs.States.{States}
-use Rattle.hol_logic.specs.Instances.{pair_at}
 use Rattle.hol_logic.proofs.StateLemmas.{passed_on}
 use Rattle.hol_logic.proofs.DefinitionLemmas.{universal_says}
 use Rattle.hol_logic.proofs.InstanceLemmas.{pair_found, pair_there, pair_stands}

@@ -1,6 +1,5 @@
-use Rattle.std.proofs.Common.{◌≡◌, ◌∙◌, sym, subst, ap₂}
+use Rattle.std.proofs.Common.{◌∙◌, sym, ap₂}
 use Rattle.hol_terms.specs.Term.{Term}
-use Rattle.lcf_kernel.specs.KernelState.{concl_of}
 use Rattle.hol_match.specs.Instance.{instance_by}
 use Rattle.hol_match.specs.Inst.{Pairs, term_for}
 use Rattle.hol_match.proofs.ApplyLemmas.{pairs_kept}

@@ -1,4 +1,4 @@
-use Rattle.std.proofs.Common.{◌≡◌, ◌<◌, ◌≤◌, sym, subst, length, arith}
+use Rattle.std.proofs.Common.{◌<◌, sym, subst, length, arith}
 use Rattle.lcf_kernel.specs.RuleForms.{IsGeneral}
 use Rattle.lcf_kernel.specs.KernelState.{concl_of, hyps_of, all_hyps_of, bare_of}
 use Rattle.lcf_kernel.proofs.KeepLemmas.{keeps_all_trans}
@@ -8,7 +8,7 @@ use Rattle.hol_logic.specs.States.{States}
 use Rattle.hol_logic.specs.DerivedForms.{all_of}
 use Rattle.hol_logic.specs.Instances.{pair_at}
 use Rattle.hol_logic.proofs.StateLemmas.{passed_shape}
-use Rattle.hol_logic.proofs.InstanceLemmas.{generalised_start, generalised_next, generalised_end, next_general, pairs_long, pairs_stand}
+use Rattle.hol_logic.proofs.InstanceLemmas.{generalised_start, generalised_next, next_general, pairs_long, pairs_stand}
 use Rattle.hol_logic.proofs.instances.over_each.Goals as goal
 
 pub loop-i-init : goal.loop-i-init

@@ -1,4 +1,4 @@
-use Rattle.std.proofs.Common.{◌≡◌, ◌∙◌, sym, subst, arith}
+use Rattle.std.proofs.Common.{sym, subst}
 use Rattle.hol_terms.specs.Term.{Term}
 use Rattle.lcf_kernel.specs.RuleForms.{IsGeneral}
 use Rattle.lcf_kernel.specs.KernelState.{concl_of, hyps_of, all_hyps_of, bare_of}
