@@ -1,12 +1,13 @@
 -- A kernel that goes on, and what it held at a mark.
 use Rattle.std.proofs.Common.{◌≡◌, ◌∙◌, ◌<◌, ◌≤◌, ◌+◌, refl, ap, ap₂, sym, subst, ℕ, zero, suc, List, length, take, get_or, arith}
 use Rattle.std.proofs.lemmas.List.{take_all, take_more_same}
-use Rattle.hol_terms.specs.TermStore.{Keeps}
+use Rattle.hol_terms.specs.TermStore.{TermStore, Keeps}
 use Rattle.hol_terms.specs.TermStore as terms
 use Rattle.hol_terms.proofs.KeepsLemmas.{may_reset_kept as store_may_reset}
 use Rattle.lcf_kernel.specs.declared.mark.KernelMark.{KernelMark}
 use Rattle.lcf_kernel.specs.declared.thm.Thm.{Thm}
 use Rattle.hol_formulas.specs.Constants.{AreConstants}
+use Rattle.hol_formulas.specs.Formulas.{trees}
 use Rattle.hol_formulas.specs.Found.{AreVariables}
 use Rattle.hol_formulas.specs.FoundTypes.{type_variables_in, AreTypeVariables}
 use Rattle.lcf_kernel.specs.Hyps.{Rises, SameIds}
@@ -54,7 +55,7 @@ may_reset_kept {k} {l} {m} keeps may =
       thms = fits;
       constants = rw (keeps.store.back m.store may.store.fits, keeps.constants) may.constants;
       variables = rw (keeps.store.back m.store may.store.fits, keeps.variables, keeps.context) may.variables;
-      type_variables = rw (keeps.store.back m.store may.store.fits, keeps.type_variables, keeps.context) may.type_variables;
+      type_variables = rw (keeps.type_variables, keeps.context) (subst (λ (s : TermStore). AreTypeVariables s.types k.type_variables (type_variables_in (trees s k.context))) (sym (keeps.store.back m.store may.store.fits)) may.type_variables);
       kernel = subst (λ (j : KernelState). IsKernel j) (sym same) may.kernel;
     }
   where
@@ -68,7 +69,7 @@ pub may_reset_now : (k : KernelState) → IsKernel k → AreConstants k.store k.
 may_reset_now k is are vars types m store whole thms =
     let front : take m.thms k.thms ≡ k.thms = take_all m.thms k.thms (omega arith) in
     let same : cut m k ≡ k = ap₂ (λ s ts. record k { store = s; thms = ts }) whole front in
-    (same, record { store = store; thms = omega arith; constants = rw whole are; variables = rw whole vars; type_variables = rw whole types; kernel = subst (λ (j : KernelState). IsKernel j) (sym same) is })
+    (same, record { store = store; thms = omega arith; constants = rw whole are; variables = rw whole vars; type_variables = subst (λ (s : TermStore). AreTypeVariables s.types k.type_variables (type_variables_in (trees s k.context))) (sym whole) types; kernel = subst (λ (j : KernelState). IsKernel j) (sym same) is })
 
 -- the kernel that was, inside
 pub inside_cut : (k : KernelState) (ordered : List ℕ) (m : KernelMark) → IsInside k k.constants ordered → MayReset m k → IsInside (cut m k) k.constants ordered
