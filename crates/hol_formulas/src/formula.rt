@@ -408,11 +408,7 @@ pub fn make_not<S: Terms>(
 }
 
 /// One term applied to another, where that fits.
-pub fn apply_fitting<S: Terms>(
-    store: &mut S,
-    f: TermId,
-    x: TermId,
-) -> Result<TermId, AllocError>
+pub fn apply_fitting<S: Terms>(store: &mut S, f: TermId, x: TermId) -> Result<TermId, AllocError>
     requires function { HasTerm (S.store store.old) f }
     requires argument { HasTerm (S.store store.old) x }
     requires fits { ty_of (term_tree (S.store store.old) f) ≡ FunTy (ty_of (term_tree (S.store store.old) x)) (result_ty (ty_of (term_tree (S.store store.old) f))) }

@@ -15,9 +15,9 @@ ghost use Rattle.hol_logic.specs.DerivedForms.{IsEquation, IsEquivalence, all_of
 
 use crate::equality::{carry, sides_of, sym, trans};
 use crate::makers::{application, place_all, place_some};
-use hol_terms::TermId;
 use hol_formulas::binder::{is_variable, make_abstraction};
 use hol_formulas::formula::{Sides, is_bool};
+use hol_terms::TermId;
 use lcf_kernel::{Kernel, RuleFault, ThmId};
 use std::alloc::AllocError;
 

@@ -12,9 +12,9 @@ ghost use Rattle.hol_logic.specs.DerivedForms.{Takes, AreCongruent};
 
 use crate::equality::{carried, rewritten, sides_of};
 use crate::makers::{application, equal, place};
+use hol_formulas::formula::Sides;
 use hol_terms::{TermId, Terms};
 use hol_types::TypeNode;
-use hol_formulas::formula::Sides;
 use lcf_kernel::{Kernel, RuleFault, ThmId};
 use std::alloc::AllocError;
 

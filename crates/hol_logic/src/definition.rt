@@ -11,10 +11,10 @@ ghost use Rattle.lcf_kernel.specs.KernelState.{HasThm, concl_of, hyps_of, contex
 ghost use Rattle.hol_logic.specs.States.{States};
 ghost use Rattle.hol_logic.specs.DerivedForms.{IsDefinition};
 
-use hol_terms::{TermId, Terms};
 use hol_formulas::binder::is_variable;
 use hol_formulas::equation::eq_parts;
 use hol_formulas::formula::Sides;
+use hol_terms::{TermId, Terms};
 use lcf_kernel::{Kernel, RuleFault, ThmId};
 use std::alloc::AllocError;
 

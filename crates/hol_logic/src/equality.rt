@@ -11,9 +11,9 @@ ghost use Rattle.hol_logic.specs.States.{States, Equates, Equal};
 ghost use Rattle.hol_logic.specs.DerivedForms.{IsEquation, IsChain};
 
 use crate::makers::{equal, lambda, opened, place_left, place_right};
-use hol_terms::{TermId, Terms};
 use hol_formulas::equation::eq_parts;
 use hol_formulas::formula::Sides;
+use hol_terms::{TermId, Terms};
 use lcf_kernel::{Kernel, RuleFault, ThmId};
 
 /// The sides of a conclusion that is an equation. None exactly where it isn't one.

@@ -9,12 +9,12 @@ ghost use Rattle.hol_terms.specs.Constants.{equation, ex_tm, exists, for_all};
 ghost use Rattle.hol_formulas.specs.Constants.{IsAt, IsType};
 ghost use Rattle.lcf_kernel.specs.KernelState.{KeepsAll};
 
-use hol_terms::{Node, TermId, Terms, make};
-use hol_types::TypeId;
-use lcf_kernel::Kernel;
 use hol_formulas::binder::{make_all, of_predicates};
 use hol_formulas::equation::make_eq;
 use hol_formulas::formula::function_type;
+use hol_terms::{Node, TermId, Terms, make};
+use hol_types::TypeId;
+use lcf_kernel::Kernel;
 use std::alloc::AllocError;
 
 /// The Bound 0 of a type: the place that a marking lambda marks.

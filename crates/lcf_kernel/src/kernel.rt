@@ -330,10 +330,7 @@ fn variables_in_order(store: &Store<'_>, context: &[TermId]) -> Result<List<Term
 }
 
 /// The type variables of formulas.
-fn type_variables_in_list(
-    store: &Store<'_>,
-    context: &[TermId],
-) -> Result<List<TypeId>, AllocError>
+fn type_variables_in_list(store: &Store<'_>, context: &[TermId]) -> Result<List<TypeId>, AllocError>
     requires { HasFormulas store.now.store context.now }
     ensures { IfOk result (λ c. AreTypeVariables store.now.store.types c (type_variables_in (trees store.now.store context.now))) }
 {

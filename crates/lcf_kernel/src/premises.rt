@@ -14,13 +14,13 @@ mod binder;
 mod equality;
 mod types;
 
+use crate::hyps::{copied, union, without};
+use crate::kernel::Kernel;
+use crate::thm::ThmId;
 use hol_formulas::formula::{
     Sides, and_parts, imp_parts, is_bool, is_false, make_and, make_imp, make_not, make_or,
     not_part, or_parts,
 };
-use crate::hyps::{copied, union, without};
-use crate::kernel::Kernel;
-use crate::thm::ThmId;
 use hol_terms::{TermId, Terms};
 use hol_types::{List, Subst};
 use std::alloc::AllocError;

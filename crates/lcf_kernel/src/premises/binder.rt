@@ -12,14 +12,14 @@ ghost use Rattle.lcf_kernel.specs.KernelState.{HasThm, concl_of, context_of, all
 ghost use Rattle.hol_formulas.specs.Formulas.{HasFormula};
 ghost use Rattle.lcf_kernel.specs.RuleForms.{IsGeneral, IsArbitrary, Agree};
 
+use crate::hyps::holds;
+use crate::kernel::Kernel;
+use crate::thm::ThmId;
 use hol_formulas::binder::{
     Binder, all_part, ex_parts, is_variable, lambda_parts, make_chosen, make_general,
 };
 use hol_formulas::formula::{Sides, apply_fitting};
-use crate::hyps::holds;
-use crate::kernel::Kernel;
 use hol_formulas::occurs::{occurs, occurs_but};
-use crate::thm::ThmId;
 use hol_terms::{Node, TermId, Terms};
 use std::alloc::AllocError;
 

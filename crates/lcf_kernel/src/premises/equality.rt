@@ -9,11 +9,11 @@ ghost use Rattle.hol_terms.specs.Formula.{IsTerm};
 ghost use Rattle.hol_terms.specs.Constants.{equation, conditional};
 ghost use Rattle.lcf_kernel.specs.KernelState.{HasThm, concl_of, IsKernel, KeepsAll};
 
+use crate::kernel::Kernel;
+use crate::thm::ThmId;
 use hol_formulas::binder::{Binder, lambda_parts};
 use hol_formulas::equation::{eq_parts, make_eq, make_ite, same_type};
 use hol_formulas::formula::Sides;
-use crate::kernel::Kernel;
-use crate::thm::ThmId;
 use hol_terms::{Node, TermId, Terms};
 use std::alloc::AllocError;
 
