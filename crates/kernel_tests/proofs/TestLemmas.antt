@@ -81,6 +81,9 @@ types_kept s u keeps ts are = record { each = λ t h. keeps.types t (are.each t 
 pub terms_kept : (s u : TermStore) → Keeps s u → (ts : List ℕ) → AreTerms s ts → AreTerms u ts
 terms_kept s u keeps ts are = record { each = λ t h. keeps.terms t (are.each t h) }
 
+pub terms_still : (k l : KernelState) → KeepsAll k l → (ts : List ℕ) → AreTerms k.store ts → AreTerms l.store ts
+terms_still k l keeps ts are = terms_kept k.store l.store keeps.records.store ts are
+
 pub thms_kept : (k l : KernelState) → KeepsAll k l → (ts : List ℕ) → AreThms k ts → AreThms l ts
 thms_kept k l keeps ts are = record { each = λ t h. keeps.records.has t (are.each t h) }
 

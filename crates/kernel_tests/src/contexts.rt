@@ -15,9 +15,10 @@ use std::process::Abort;
 use std::test::Fail;
 
 // p, of type Bool
-#[tactic(auto, using(crate::proofs::TestLemmas::symbol_context))]
+#[tactic(auto, using(crate::proofs::TestLemmas::symbol_context, hol_terms::proofs::KeepsLemmas::keeps_trans))]
 fn symbol_formula<S: Terms>(store: &mut S) -> Result<TermId, Fail>
-    ensures { IfOk result (λ t. IsContext (S.store store.new) (t ∷ [])) }
+    ensures context { IfOk result (λ t. IsContext (S.store store.new) (t ∷ [])) }
+    ensures keeps { IfOk result (λ _. Keeps (S.store store.old) (S.store store.new)) }
 {
     let bool = store.intern_type(TypeNode::Bool)?;
     let name = store.name(b"p")?;
@@ -53,6 +54,7 @@ fn terms_in<S: Terms>(rt: &impl Abort, store: &mut S) -> Result<Vec<TermId>, Fai
     Ok(terms)
 }
 
+#[tactic(auto, using(crate::proofs::TestLemmas::terms_kept))]
 fn store(rt: &impl Abort, alloc: Global) -> Result<(Frozen, Vec<TermId>, TermId), Fail>
     ensures terms { IfOk result (λ m. AreTerms m.0 m.1.items) }
     ensures context { IfOk result (λ m. IsContext m.0 (m.2 ∷ [])) }

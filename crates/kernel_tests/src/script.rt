@@ -60,7 +60,7 @@ fn assert_says(
     Ok(())
 }
 
-#[tactic(auto, using(crate::proofs::TestLemmas::thms_kept, crate::proofs::TestLemmas::thms_push))]
+#[tactic(auto, using(crate::proofs::TestLemmas::terms_still, crate::proofs::TestLemmas::thms_kept, crate::proofs::TestLemmas::thms_push))]
 fn step(
     rt: &impl Abort,
     k: &mut Kernel<'_>,
