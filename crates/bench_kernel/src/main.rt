@@ -6,9 +6,9 @@ ghost use Rattle.bench_kernel.specs.Given.{HasGiven};
 
 mod measured;
 
-use measured::{Given, Rule, call, make_given, rule_of};
 use hol_terms::{Base, Frozen};
 use lcf_kernel::Kernel;
+use measured::{Given, Rule, call, make_given, rule_of};
 use std::alloc::Global;
 use std::env;
 use std::process::ExitCode;
