@@ -20,4 +20,6 @@ mod texts;
 #[cfg(test)]
 mod tokens;
 #[cfg(test)]
+mod type_calls;
+#[cfg(test)]
 mod types;

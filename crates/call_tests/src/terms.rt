@@ -3,6 +3,7 @@
 ghost use Rattle.std.specs.Prelude.{◌≡◌, IfOk};
 ghost use Rattle.hol_terms.specs.TermStore.{HasTerm, Keeps};
 
+use crate::type_calls::each_type_call;
 use hol_terms::{Base, FreeKind, Frozen, Node, Store, TermFault, TermId, Terms};
 use hol_types::{List, TypeFault, TypeNode};
 use lcf_kernel::Kernel;
@@ -225,6 +226,7 @@ fn closing<S: Terms>(rt: &impl Abort, store: &mut S, length: u32, wide: bool) ->
 
 fn each_call<S: Terms>(rt: &impl Abort, store: &mut S) -> Result<(), Fail> {
     constructor(rt, store)?;
+    each_type_call(rt, store)?;
     misfit(rt, store)?;
     number_for_variable(rt, store)?;
     for (length, wide) in [(0, true), (1, true), (60, true), (2_000, false)] {
