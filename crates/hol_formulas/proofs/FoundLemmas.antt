@@ -13,7 +13,9 @@ use Rattle.hol_terms.specs.declared.node.FreeKind.{FreeKind}
 use Rattle.hol_terms.specs.Term.{Term, FreeTm, BoundTm, ConstTm, NumTm, AppTm, LamTm}
 use Rattle.hol_terms.specs.TermStore.{TermStore, HasTerm, Keeps, TermsApart, term_tree}
 use Rattle.hol_terms.specs.Substitution.{free_variables}
+use Rattle.hol_terms.specs.Deep.{IsPartOf}
 use Rattle.hol_terms.specs.Formula.{In, NotFreeIn, NotFreeInAny}
+use Rattle.hol_terms.proofs.DeepLemmas.{free_in_part}
 use Rattle.hol_terms.proofs.SetLemmas.{in_append_left, in_append_right, in_append_either}
 use Rattle.hol_formulas.specs.Formulas.{trees, HasFormulas}
 use Rattle.hol_formulas.specs.Found.{variables_in, AreAmong, AreVariables, Finds, AllFound, Adds}
@@ -84,6 +86,19 @@ module _ (s : TermStore) where
 
   pub adds_lam : (old new : List ℕ) (ty : Ty) (b : Term) → Adds s old new b → Adds s old new (LamTm ty b)
   adds_lam old new ty b a = record { added = a.added; is = a.is; there = a.there; only = a.only }
+
+-- what was added by a part, and then by more
+module _ (s : TermStore) where
+  pub adds_part : (old new : List ℕ) (whole t : Term) → IsPartOf whole t → Adds s old new t → Adds s old new whole
+  adds_part old new whole t part a = record { added = a.added; is = a.is; there = a.there; only = λ v h. free_in_part (term_tree s v) whole t part (a.only v h) }
+
+  pub adds_both : (old mid new : List ℕ) (t : Term) → Adds s old mid t → Adds s mid new t → Adds s old new t
+  adds_both old mid new t a b = record {
+    added = a.added ++ b.added;
+    is = b.is ∙ ap (λ vs. vs ++ b.added) a.is ∙ append_assoc old a.added b.added;
+    there = λ v h. ⊎_elim (λ (i : In v a.added). a.there v i) (λ (i : In v b.added). b.there v i) (in_append_either v a.added b.added h);
+    only = λ v h. ⊎_elim (λ (i : In v a.added). a.only v i) (λ (i : In v b.added). b.only v i) (in_append_either v a.added b.added h);
+  }
 
 -- ---- lists of terms
 

@@ -7,3 +7,5 @@ pub mod UnchangedLemmas
 pub mod FoundLemmas
 pub mod TypesFoundLemmas
 pub mod UnchangedTypes
+pub mod PartLemmas
+pub mod SmallLemmas

@@ -179,6 +179,30 @@ fn find_in_node<S: Terms>(
     }
 }
 
+/// The same, for a whole term, which may be deep.
+fn find_in_term<S: Terms>(
+    store: &S,
+    types: &mut HashSet<TypeId>,
+    terms: &mut HashSet<TermId>,
+    found: &mut Vec<TypeId>,
+    t: TermId,
+) -> Result<(), AllocError>
+    requires there { HasTerm (S.store store.now) t }
+    requires types { AllTypesFound (S.store store.now).types found.old.items types.old }
+    requires terms { AllTermsFound (S.store store.now) found.old.items terms.old }
+    ensures finds { OnOk result (FindsTypes (S.store store.now).types found.new.items (type_variables (term_tree (S.store store.now) t))) }
+    ensures adds { OnOk result (AddsTypes (S.store store.now).types found.old.items found.new.items (type_variables (term_tree (S.store store.now) t))) }
+    ensures types { OnOk result (AllTypesFound (S.store store.now).types found.new.items types.new) }
+    ensures terms { OnOk result (AllTermsFound (S.store store.now) found.new.items terms.new) }
+{
+    let parts = store.deep_parts(t)?;
+    for part in parts.as_slice() {
+        find_in_part(store, types, terms, found, *part)?;
+    }
+    find_in_part(store, types, terms, found, t)?;
+    Ok(())
+}
+
 /// The type variables of formulas, as types. It takes one step for each distinct part of them and of their types.
 pub fn type_variables_of<S: Terms>(store: &S, ts: &[TermId]) -> Result<Vec<TypeId>, AllocError>
     requires { HasFormulas (S.store store.now) ts.now }
@@ -188,7 +212,7 @@ pub fn type_variables_of<S: Terms>(store: &S, ts: &[TermId]) -> Result<Vec<TypeI
     let mut terms = HashSet::new(store.allocator());
     let mut found = Vec::new(store.allocator());
     for t in ts {
-        find_in_part(store, &mut types, &mut terms, &mut found, *t)?;
+        find_in_term(store, &mut types, &mut terms, &mut found, *t)?;
     }
     Ok(found)
 }

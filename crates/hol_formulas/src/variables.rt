@@ -64,6 +64,27 @@ fn find_in_node<S: Terms>(
     }
 }
 
+/// The same, for a whole term, which may be deep.
+fn find_in_term<S: Terms>(
+    store: &S,
+    seen: &mut HashSet<TermId>,
+    found: &mut Vec<TermId>,
+    t: TermId,
+) -> Result<(), AllocError>
+    requires term { HasTerm (S.store store.now) t }
+    requires seen { AllFound (S.store store.now) found.old.items seen.old }
+    ensures finds { OnOk result (Finds (S.store store.now) found.new.items (term_tree (S.store store.now) t)) }
+    ensures adds { OnOk result (Adds (S.store store.now) found.old.items found.new.items (term_tree (S.store store.now) t)) }
+    ensures seen { OnOk result (AllFound (S.store store.now) found.new.items seen.new) }
+{
+    let parts = store.deep_parts(t)?;
+    for part in parts.as_slice() {
+        find_in_part(store, seen, found, *part)?;
+    }
+    find_in_part(store, seen, found, t)?;
+    Ok(())
+}
+
 /// The free variables of formulas, each at least once. It takes one step for each distinct part of them.
 pub fn variables_of<S: Terms>(store: &S, ts: &[TermId]) -> Result<Vec<TermId>, AllocError>
     requires { HasFormulas (S.store store.now) ts.now }
@@ -72,7 +93,7 @@ pub fn variables_of<S: Terms>(store: &S, ts: &[TermId]) -> Result<Vec<TermId>, A
     let mut seen = HashSet::new(store.allocator());
     let mut found = Vec::new(store.allocator());
     for t in ts {
-        find_in_part(store, &mut seen, &mut found, *t)?;
+        find_in_term(store, &mut seen, &mut found, *t)?;
     }
     Ok(found)
 }

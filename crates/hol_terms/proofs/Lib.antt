@@ -1,3 +1,4 @@
+pub mod DeepLemmas
 pub mod DerivableLemmas
 pub mod DerivedFormulas
 pub mod FormulaLemmas

@@ -1,5 +1,6 @@
 pub mod BuiltIn
 pub mod Constants
+pub mod Deep
 pub mod Derivable
 pub mod Exact
 pub mod Formula

@@ -6,8 +6,11 @@ ghost use Rattle.hol_terms.specs.Term.{Typed, ty_of};
 ghost use Rattle.hol_terms.specs.Substitution.{IsClosed};
 ghost use Rattle.hol_terms.specs.TermStore.{TermStore, IsTermStore, TermsApart, empty_store, term_tree, tree_of, HasTerm, PartsBelow, Keeps, FitsMark, MayReset, cut, mark_of};
 
-use crate::intern::intern_in;
+use crate::deep::{deep_parts_in, deep_type_parts_in};
+use crate::intern::{intern_in, make_in};
+use crate::memo::Part;
 use crate::node::{Node, TermId};
+use crate::places::deep_places_in;
 use crate::tables::{Mark, TermTables, known_node_in, mark_in, reach_in, reset_in, ty_in};
 use crate::terms::Terms;
 use crate::type_tables::{
@@ -94,6 +97,13 @@ impl Base {
 }
 
 impl Frozen {
+    /// The store again, to which more may be added.
+    pub fn thaw(self) -> Base
+        ensures { result ≡ self }
+    {
+        self.base
+    }
+
     /// A term by the numbers of its parts, which are smaller.
     pub fn node(&self, t: TermId) -> Node
         requires { HasTerm self.now t }
@@ -241,6 +251,10 @@ impl Terms for Base {
         intern_in(&self.none, &mut self.own, node)
     }
 
+    fn make(&mut self, node: Node) -> Result<TermId, AllocError> {
+        make_in(&self.none, &mut self.own, node)
+    }
+
     fn node(&self, t: TermId) -> Node {
         known_node_in(&self.none, &self.own, t)
     }
@@ -251,6 +265,18 @@ impl Terms for Base {
 
     fn reach(&self, t: TermId) -> u32 {
         reach_in(&self.none, &self.own, t)
+    }
+
+    fn deep_parts(&self, t: TermId) -> Result<Vec<TermId>, AllocError> {
+        deep_parts_in(&self.none, &self.own, t)
+    }
+
+    fn deep_places(&self, t: TermId, loose: bool) -> Result<Vec<Part>, AllocError> {
+        deep_places_in(&self.none, &self.own, t, loose)
+    }
+
+    fn deep_type_parts(&self, t: TypeId) -> Result<Vec<TypeId>, AllocError> {
+        deep_type_parts_in(&self.none, &self.own, t)
     }
 }
 
@@ -307,6 +333,10 @@ impl<'b> Terms for Store<'b> {
         intern_in(self.base.tables(), &mut self.own, node)
     }
 
+    fn make(&mut self, node: Node) -> Result<TermId, AllocError> {
+        make_in(self.base.tables(), &mut self.own, node)
+    }
+
     fn node(&self, t: TermId) -> Node {
         known_node_in(self.base.tables(), &self.own, t)
     }
@@ -317,5 +347,17 @@ impl<'b> Terms for Store<'b> {
 
     fn reach(&self, t: TermId) -> u32 {
         reach_in(self.base.tables(), &self.own, t)
+    }
+
+    fn deep_parts(&self, t: TermId) -> Result<Vec<TermId>, AllocError> {
+        deep_parts_in(self.base.tables(), &self.own, t)
+    }
+
+    fn deep_places(&self, t: TermId, loose: bool) -> Result<Vec<Part>, AllocError> {
+        deep_places_in(self.base.tables(), &self.own, t, loose)
+    }
+
+    fn deep_type_parts(&self, t: TypeId) -> Result<Vec<TypeId>, AllocError> {
+        deep_type_parts_in(self.base.tables(), &self.own, t)
     }
 }

@@ -1,5 +1,5 @@
 //! A bound variable for a free one, each shared part once.
-ghost use Rattle.std.specs.Prelude.{◌≡◌, ◌+◌, ◌*◌, ◌<◌, ◌^◌, IfOk};
+ghost use Rattle.std.specs.Prelude.{◌≡◌, ◌+◌, ◌*◌, ◌<◌, ◌^◌, IfOk, OnOk};
 ghost use Rattle.hol_terms.specs.TermStore.{Keeps, term_tree, HasTerm};
 ghost use Rattle.hol_terms.specs.Substitution.{close_free};
 ghost use Rattle.hol_terms.specs.Memo.{AllClosed};
@@ -9,10 +9,11 @@ use crate::node::{Node, TermId};
 use crate::terms::Terms;
 use crate::typed_terms::make;
 use std::alloc::AllocError;
+use std::collections::HashMap;
 
 /// The part with the Bound of its index for v.
 #[cycle(close)]
-pub(crate) fn close_part<S: Terms>(
+fn close_part<S: Terms>(
     store: &mut S,
     memo: &mut Memo,
     part: Part,
@@ -85,4 +86,41 @@ fn close_node<S: Terms>(
         Node::Const(_, _) => Ok(part.term),
         Node::Num(_) => Ok(part.term),
     }
+}
+
+/// Puts what is made of the parts of a deep term into the memo.
+fn close_beneath<S: Terms>(
+    store: &mut S,
+    memo: &mut Memo,
+    t: TermId,
+    v: TermId,
+) -> Result<(), AllocError>
+    requires term { HasTerm (S.store store.old) t }
+    requires variable { HasTerm (S.store store.old) v }
+    requires memo { AllClosed (S.store store.old) (term_tree (S.store store.old) v) memo.old }
+    ensures keeps { Keeps (S.store store.old) (S.store store.new) }
+    ensures rest { S.rest store.new ≡ S.rest store.old }
+    ensures memo { OnOk result (AllClosed (S.store store.new) (term_tree (S.store store.old) v) memo.new) }
+{
+    let places = store.deep_places(t, false)?;
+    for place in places.as_slice() {
+        close_part(store, memo, *place, v)?;
+    }
+    Ok(())
+}
+
+/// The term with the Bound of index 0 for v.
+pub(crate) fn closed<S: Terms>(store: &mut S, t: TermId, v: TermId) -> Result<TermId, AllocError>
+    requires term { HasTerm (S.store store.old) t }
+    requires variable { HasTerm (S.store store.old) v }
+    ensures there { IfOk result (λ r. HasTerm (S.store store.new) r) }
+    ensures tree { IfOk result (λ r. term_tree (S.store store.new) r ≡ close_free (term_tree (S.store store.old) t) 0 (term_tree (S.store store.old) v)) }
+    ensures keeps { Keeps (S.store store.old) (S.store store.new) }
+    ensures rest { S.rest store.new ≡ S.rest store.old }
+{
+    let mut memo = HashMap::new(store.allocator());
+    close_beneath(store, &mut memo, t, v)?;
+    let part = Part { term: t, index: 0 };
+    let r = close_part(store, &mut memo, part, v)?;
+    Ok(r)
 }

@@ -1,5 +1,5 @@
 //! Whether the Bounds of a body have their binder's type.
-ghost use Rattle.std.specs.Prelude.{◌≡◌, ◌^◌, ◌<◌, ◌+◌, ◌↔◌, IsTrue, IfOk};
+ghost use Rattle.std.specs.Prelude.{◌≡◌, ◌^◌, ◌<◌, ◌+◌, ◌↔◌, false, IsTrue, IfOk};
 ghost use Rattle.hol_types.specs.TypeStore.{type_tree, HasType};
 ghost use Rattle.hol_terms.specs.Term.{BoundsFit};
 ghost use Rattle.hol_terms.specs.Memo.{AllFit};
@@ -7,6 +7,7 @@ ghost use Rattle.hol_terms.specs.TermStore.{IsTermStore, joined, term_tree, HasT
 
 use crate::memo::{Part, Parts};
 use crate::node::{Node, TermId};
+use crate::places::deep_places_in;
 use crate::tables::{TermTables, known_node_in, reach_in};
 use hol_types::TypeId;
 use std::alloc::AllocError;
@@ -84,6 +85,30 @@ fn node_fits(
     }
 }
 
+/// Goes through the parts of a deep body, as long as they fit. False only where the body doesn't.
+fn places_fit(
+    base: &TermTables,
+    own: &TermTables,
+    seen: &mut Parts,
+    body: TermId,
+    ty: TypeId,
+) -> Result<bool, AllocError>
+    requires lawful { IsTermStore (joined base.now own.now) }
+    requires there { HasTerm (joined base.now own.now) body }
+    requires ty { HasType (joined base.now own.now).types ty }
+    requires seen { AllFit (joined base.now own.now) (type_tree (joined base.now own.now).types ty) seen.old }
+    ensures fits { IfOk result (λ r. r ≡ false → BoundsFit (term_tree (joined base.now own.now) body) 0 (type_tree (joined base.now own.now).types ty) → ⊥) }
+    ensures seen { AllFit (joined base.now own.now) (type_tree (joined base.now own.now).types ty) seen.new }
+{
+    let places = deep_places_in(base, own, body, true)?;
+    for place in places.as_slice() {
+        if !part_fits(base, own, seen, *place, ty)? {
+            return Ok(false);
+        }
+    }
+    Ok(true)
+}
+
 /// Whether each Bound of a body that stands for its binder has the type. It takes one step for each distinct part of
 /// the body and each number of binders around it, and none for a closed part.
 pub(crate) fn bounds_fit(
@@ -98,6 +123,9 @@ pub(crate) fn bounds_fit(
     ensures { IfOk result (λ r. IsTrue r ↔ BoundsFit (term_tree (joined base.now own.now) body) 0 (type_tree (joined base.now own.now).types ty)) }
 {
     let mut seen = HashSet::new(own.allocator());
+    if !places_fit(base, own, &mut seen, body, ty)? {
+        return Ok(false);
+    }
     let part = Part {
         term: body,
         index: 0,

@@ -1,5 +1,5 @@
 //! Whether a free variable occurs in a term, each shared part once.
-ghost use Rattle.std.specs.Prelude.{◌≡◌, ◌↔◌, ◌+◌, ◌*◌, IsTrue, IfOk};
+ghost use Rattle.std.specs.Prelude.{◌≡◌, ◌↔◌, ◌+◌, ◌*◌, true, IsTrue, IfOk, OnOk};
 ghost use Rattle.hol_terms.specs.Formula.{In};
 ghost use Rattle.hol_terms.specs.TermStore.{term_tree, HasTerm};
 ghost use Rattle.hol_terms.specs.Substitution.{free_variables};
@@ -11,11 +11,11 @@ use std::alloc::AllocError;
 use std::collections::HashSet;
 
 /// The parts that are known to be without the variable.
-pub(crate) type Without = HashSet<TermId>;
+type Without = HashSet<TermId>;
 
 /// Whether the free variable v occurs in the part.
 #[cycle(free_in)]
-pub(crate) fn part_has<S: Terms>(
+fn part_has<S: Terms>(
     store: &S,
     seen: &mut Without,
     v: TermId,
@@ -70,4 +70,43 @@ fn node_has<S: Terms>(
         Node::Const(_, _) => Ok(false),
         Node::Num(_) => Ok(false),
     }
+}
+
+/// Goes through the parts of a deep term, as long as they are without the variable. True only where it occurs in the
+/// term.
+fn parts_have<S: Terms>(
+    store: &S,
+    seen: &mut Without,
+    v: TermId,
+    t: TermId,
+) -> Result<bool, AllocError>
+    requires variable { HasTerm (S.store store.now) v }
+    requires term { HasTerm (S.store store.now) t }
+    requires seen { AllWithout (S.store store.now) (term_tree (S.store store.now) v) seen.old }
+    ensures free { IfOk result (λ r. r ≡ true → In (term_tree (S.store store.now) v) (free_variables (term_tree (S.store store.now) t))) }
+    ensures seen { OnOk result (AllWithout (S.store store.now) (term_tree (S.store store.now) v) seen.new) }
+{
+    let parts = store.deep_parts(t)?;
+    for part in parts.as_slice() {
+        let has = part_has(store, seen, v, *part)?;
+        if has {
+            return Ok(true);
+        }
+    }
+    Ok(false)
+}
+
+/// Whether the free variable v occurs in the term.
+pub(crate) fn term_has<S: Terms>(store: &S, v: TermId, t: TermId) -> Result<bool, AllocError>
+    requires variable { HasTerm (S.store store.now) v }
+    requires term { HasTerm (S.store store.now) t }
+    ensures { IfOk result (λ r. IsTrue r ↔ In (term_tree (S.store store.now) v) (free_variables (term_tree (S.store store.now) t))) }
+{
+    let mut seen = HashSet::new(store.allocator());
+    let found = parts_have(store, &mut seen, v, t)?;
+    if found {
+        return Ok(true);
+    }
+    let has = part_has(store, &mut seen, v, t)?;
+    Ok(has)
 }

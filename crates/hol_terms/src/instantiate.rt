@@ -15,7 +15,7 @@ use std::alloc::AllocError;
 use std::collections::HashMap;
 
 /// What was made of each part.
-pub(crate) type Instances = HashMap<TermId, TermId>;
+type Instances = HashMap<TermId, TermId>;
 
 /// The type with the given types for its variables; the store still has these. `types` has what was made of types before.
 fn type_instance<S: Terms>(
@@ -40,7 +40,7 @@ fn type_instance<S: Terms>(
 
 /// The part with the given types for its type variables.
 #[cycle(instantiate)]
-pub(crate) fn instantiate_part<S: Terms>(
+fn instantiate_part<S: Terms>(
     store: &mut S,
     memo: &mut Instances,
     types: &mut TypeInstances,
@@ -121,4 +121,50 @@ fn instantiate_node<S: Terms>(
         }
         Node::Num(_) => Ok(t),
     }
+}
+
+/// Puts what is made of the parts of a deep term into the memo.
+fn instantiate_beneath<S: Terms>(
+    store: &mut S,
+    memo: &mut Instances,
+    types: &mut TypeInstances,
+    t: TermId,
+    s: &Subst,
+) -> Result<(), AllocError>
+    requires term { HasTerm (S.store store.old) t }
+    requires subst { HasSubst (S.store store.old).types s.now }
+    requires memo { AllInstances (S.store store.old) (subst_tree (S.store store.old).types s.now) memo.old }
+    requires types { AllTypeInstances (S.store store.old).types s.now types.old }
+    ensures subst { OnOk result (HasSubst (S.store store.new).types s.now) }
+    ensures same { OnOk result (subst_tree (S.store store.new).types s.now ≡ subst_tree (S.store store.old).types s.now) }
+    ensures memo { OnOk result (AllInstances (S.store store.new) (subst_tree (S.store store.old).types s.now) memo.new) }
+    ensures keeps { Keeps (S.store store.old) (S.store store.new) }
+    ensures rest { S.rest store.new ≡ S.rest store.old }
+    ensures types { OnOk result (AllTypeInstances (S.store store.new).types s.now types.new) }
+{
+    let parts = store.deep_parts(t)?;
+    for part in parts.as_slice() {
+        instantiate_part(store, memo, types, *part, s)?;
+    }
+    Ok(())
+}
+
+/// The term with the given types for its type variables.
+pub(crate) fn instantiated<S: Terms>(
+    store: &mut S,
+    t: TermId,
+    s: &Subst,
+) -> Result<TermId, AllocError>
+    requires term { HasTerm (S.store store.old) t }
+    requires subst { HasSubst (S.store store.old).types s.now }
+    ensures there { IfOk result (λ r. HasTerm (S.store store.new) r) }
+    ensures tree { IfOk result (λ r. term_tree (S.store store.new) r ≡ subst_types (subst_tree (S.store store.old).types s.now) (term_tree (S.store store.old) t)) }
+    ensures keeps { Keeps (S.store store.old) (S.store store.new) }
+    ensures rest { S.rest store.new ≡ S.rest store.old }
+{
+    let mut memo = HashMap::new(store.allocator());
+    let mut types = HashMap::new(store.allocator());
+    instantiate_beneath(store, &mut memo, &mut types, t, s)?;
+    let r = instantiate_part(store, &mut memo, &mut types, t, s)?;
+    Ok(r)
 }

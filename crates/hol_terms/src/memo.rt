@@ -3,7 +3,7 @@ use crate::node::TermId;
 use std::collections::{HashMap, HashSet};
 
 /// A part of a term, with the number of binders that stand around it.
-#[derive(Clone, Copy, PartialEq, Eq, Hash, Debug)]
+#[derive(Clone, Copy, PartialEq, Eq, PartialOrd, Ord, Hash, Debug)]
 pub struct Part {
     /// The part.
     pub term: TermId,

@@ -1,5 +1,5 @@
 //! A term for a bound variable, each shared part once.
-ghost use Rattle.std.specs.Prelude.{◌≡◌, ◌+◌, ◌*◌, ◌<◌, ◌^◌, IfOk};
+ghost use Rattle.std.specs.Prelude.{◌≡◌, ◌+◌, ◌*◌, ◌<◌, ◌^◌, IfOk, OnOk};
 ghost use Rattle.hol_terms.specs.Term.{BoundsFit, Typed, ty_of};
 ghost use Rattle.hol_terms.specs.TermStore.{Keeps, term_tree, HasTerm};
 ghost use Rattle.hol_terms.specs.Substitution.{subst_bound, IsClosed};
@@ -10,10 +10,11 @@ use crate::node::{Node, TermId};
 use crate::terms::Terms;
 use crate::typed_terms::make;
 use std::alloc::AllocError;
+use std::collections::HashMap;
 
 /// The part with u for the Bound of its index. A part that reaches no further has no such Bound, and stays.
 #[cycle(open)]
-pub(crate) fn open_part<S: Terms>(
+fn open_part<S: Terms>(
     store: &mut S,
     memo: &mut Memo,
     part: Part,
@@ -89,4 +90,50 @@ fn open_node<S: Terms>(
         Node::Const(_, _) => Ok(part.term),
         Node::Num(_) => Ok(part.term),
     }
+}
+
+/// Puts what is made of the parts of a deep body into the memo.
+fn open_beneath<S: Terms>(
+    store: &mut S,
+    memo: &mut Memo,
+    body: TermId,
+    u: TermId,
+) -> Result<(), AllocError>
+    requires body { HasTerm (S.store store.old) body }
+    requires new { HasTerm (S.store store.old) u }
+    requires typed { Typed (term_tree (S.store store.old) u) }
+    requires closed { IsClosed (term_tree (S.store store.old) u) }
+    requires fits { BoundsFit (term_tree (S.store store.old) body) 0 (ty_of (term_tree (S.store store.old) u)) }
+    requires memo { AllOpened (S.store store.old) (term_tree (S.store store.old) u) memo.old }
+    ensures keeps { Keeps (S.store store.old) (S.store store.new) }
+    ensures rest { S.rest store.new ≡ S.rest store.old }
+    ensures memo { OnOk result (AllOpened (S.store store.new) (term_tree (S.store store.old) u) memo.new) }
+{
+    let places = store.deep_places(body, true)?;
+    for place in places.as_slice() {
+        open_part(store, memo, *place, u)?;
+    }
+    Ok(())
+}
+
+/// The body with u for its Bound of index 0.
+pub(crate) fn opened<S: Terms>(store: &mut S, body: TermId, u: TermId) -> Result<TermId, AllocError>
+    requires body { HasTerm (S.store store.old) body }
+    requires new { HasTerm (S.store store.old) u }
+    requires typed { Typed (term_tree (S.store store.old) u) }
+    requires closed { IsClosed (term_tree (S.store store.old) u) }
+    requires fits { BoundsFit (term_tree (S.store store.old) body) 0 (ty_of (term_tree (S.store store.old) u)) }
+    ensures there { IfOk result (λ r. HasTerm (S.store store.new) r) }
+    ensures tree { IfOk result (λ r. term_tree (S.store store.new) r ≡ subst_bound (term_tree (S.store store.old) body) 0 (term_tree (S.store store.old) u)) }
+    ensures keeps { Keeps (S.store store.old) (S.store store.new) }
+    ensures rest { S.rest store.new ≡ S.rest store.old }
+{
+    let mut memo = HashMap::new(store.allocator());
+    open_beneath(store, &mut memo, body, u)?;
+    let part = Part {
+        term: body,
+        index: 0,
+    };
+    let r = open_part(store, &mut memo, part, u)?;
+    Ok(r)
 }

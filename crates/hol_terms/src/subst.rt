@@ -1,5 +1,5 @@
 //! A term for a free variable, each shared part once.
-ghost use Rattle.std.specs.Prelude.{◌≡◌, ◌+◌, ◌*◌, ◌<◌, IfOk};
+ghost use Rattle.std.specs.Prelude.{◌≡◌, ◌+◌, ◌*◌, ◌<◌, IfOk, OnOk};
 ghost use Rattle.hol_terms.specs.Term.{Typed, ty_of};
 ghost use Rattle.hol_terms.specs.TermStore.{Keeps, term_tree, HasTerm};
 ghost use Rattle.hol_terms.specs.Substitution.{subst_free, IsClosed};
@@ -12,11 +12,11 @@ use std::alloc::AllocError;
 use std::collections::HashMap;
 
 /// What was made of each part.
-pub(crate) type Replaced = HashMap<TermId, TermId>;
+type Replaced = HashMap<TermId, TermId>;
 
 /// The part with u for the free variable v.
 #[cycle(subst)]
-pub(crate) fn subst_part<S: Terms>(
+fn subst_part<S: Terms>(
     store: &mut S,
     memo: &mut Replaced,
     t: TermId,
@@ -91,4 +91,54 @@ fn subst_node<S: Terms>(
         Node::Const(_, _) => Ok(t),
         Node::Num(_) => Ok(t),
     }
+}
+
+/// Puts what is made of the parts of a deep term into the memo.
+fn subst_beneath<S: Terms>(
+    store: &mut S,
+    memo: &mut Replaced,
+    t: TermId,
+    v: TermId,
+    u: TermId,
+) -> Result<(), AllocError>
+    requires term { HasTerm (S.store store.old) t }
+    requires variable { HasTerm (S.store store.old) v }
+    requires new { HasTerm (S.store store.old) u }
+    requires typed { Typed (term_tree (S.store store.old) u) }
+    requires closed { IsClosed (term_tree (S.store store.old) u) }
+    requires same_type { ty_of (term_tree (S.store store.old) u) ≡ ty_of (term_tree (S.store store.old) v) }
+    requires memo { AllReplaced (S.store store.old) (term_tree (S.store store.old) v) (term_tree (S.store store.old) u) memo.old }
+    ensures keeps { Keeps (S.store store.old) (S.store store.new) }
+    ensures rest { S.rest store.new ≡ S.rest store.old }
+    ensures memo { OnOk result (AllReplaced (S.store store.new) (term_tree (S.store store.old) v) (term_tree (S.store store.old) u) memo.new) }
+{
+    let parts = store.deep_parts(t)?;
+    for part in parts.as_slice() {
+        subst_part(store, memo, *part, v, u)?;
+    }
+    Ok(())
+}
+
+/// The term with u for the free variable v.
+pub(crate) fn replaced<S: Terms>(
+    store: &mut S,
+    t: TermId,
+    v: TermId,
+    u: TermId,
+) -> Result<TermId, AllocError>
+    requires term { HasTerm (S.store store.old) t }
+    requires variable { HasTerm (S.store store.old) v }
+    requires new { HasTerm (S.store store.old) u }
+    requires typed { Typed (term_tree (S.store store.old) u) }
+    requires closed { IsClosed (term_tree (S.store store.old) u) }
+    requires same_type { ty_of (term_tree (S.store store.old) u) ≡ ty_of (term_tree (S.store store.old) v) }
+    ensures there { IfOk result (λ r. HasTerm (S.store store.new) r) }
+    ensures tree { IfOk result (λ r. term_tree (S.store store.new) r ≡ subst_free (term_tree (S.store store.old) v) (term_tree (S.store store.old) u) (term_tree (S.store store.old) t)) }
+    ensures keeps { Keeps (S.store store.old) (S.store store.new) }
+    ensures rest { S.rest store.new ≡ S.rest store.old }
+{
+    let mut memo = HashMap::new(store.allocator());
+    subst_beneath(store, &mut memo, t, v, u)?;
+    let r = subst_part(store, &mut memo, t, v, u)?;
+    Ok(r)
 }

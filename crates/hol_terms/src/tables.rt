@@ -20,6 +20,8 @@ pub(crate) struct TermTables {
     nodes: Table<Node>,
     tys: Vec<TypeId>,
     reaches: Vec<u32>,
+    /// How deep each term is. Nothing that is promised rests on it.
+    heights: Vec<u32>,
     alloc: Global,
 }
 
@@ -50,6 +52,7 @@ impl TermTables {
             nodes: Table::new(alloc),
             tys: Vec::new(alloc),
             reaches: Vec::new(alloc),
+            heights: Vec::new(alloc),
             alloc,
         }
     }
@@ -164,13 +167,43 @@ pub(crate) fn add_in(
     ensures grows { GrowsTo (joined base.now own.old) (joined base.now own.new) }
     ensures err { OnErr result (own.new ≡ own.old) }
 {
+    let height = node_height(base, own, &node);
     let at = types::number(base.nodes.len() + own.nodes.len())?;
     own.tys.reserve(1)?;
     own.reaches.reserve(1)?;
+    own.heights.reserve(1)?;
     own.nodes.push(node)?;
     own.tys.push_reserved(ty);
     own.reaches.push_reserved(reach);
+    own.heights.push_reserved(height);
     Ok(TermId::new(at))
+}
+
+/// How deep a term is, 1 where it has no parts. It is a hint: no contract speaks of it.
+pub(crate) fn height_in(base: &TermTables, own: &TermTables, t: TermId) -> u32 {
+    let at = t.index() as usize;
+    let before = base.heights.len();
+    let height = if at < before {
+        base.heights.get(at)
+    } else {
+        own.heights.get(at - before)
+    };
+    match height {
+        Some(height) => *height,
+        None => 0,
+    }
+}
+
+/// How deep a term is, given by its node.
+fn node_height(base: &TermTables, own: &TermTables, node: &Node) -> u32 {
+    match *node {
+        Node::App(f, x) => {
+            let most = height_in(base, own, f).max(height_in(base, own, x));
+            most.saturating_add(1)
+        }
+        Node::Lam(_, b) => height_in(base, own, b).saturating_add(1),
+        _ => 1,
+    }
 }
 
 /// How much is held now.
@@ -197,4 +230,5 @@ pub(crate) fn reset_in(base: &TermTables, own: &mut TermTables, mark: Mark)
     own.nodes.truncate(mark.nodes - base.nodes.len());
     own.tys.truncate(mark.nodes - base.tys.len());
     own.reaches.truncate(mark.nodes - base.reaches.len());
+    own.heights.truncate(mark.nodes - base.nodes.len());
 }

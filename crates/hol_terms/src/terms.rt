@@ -1,27 +1,29 @@
 //! What keeps terms, however it is kept.
 ghost use Rattle.std.specs.Prelude.{◌≡◌, ℕ, ◌↔◌, IsTrue, IfOk, IfSome, OnOk, OnErr, IfErr, Some, None, false};
+ghost use Rattle.std.specs.List.{AllByRecursion};
 ghost use Rattle.hol_types.specs.TypeStore.{HasName, HasType, HasArity, HasTypeParts, NamesApart, TreesApart, arity_of, text_of, type_tree};
 ghost use Rattle.hol_types.specs.TypeStore as types;
 ghost use Rattle.hol_types.specs.TypeSubst.{HasSubst, NamesOnce, subst_tree, instance_of};
 ghost use Rattle.hol_types.specs.Instance.{AllTypeInstances};
 ghost use Rattle.hol_types.specs.TypeMatch.{Matches, IsLeast, NeverIs};
 ghost use Rattle.hol_terms.specs.Term.{BoundsFit, Typed, ty_of};
+ghost use Rattle.hol_terms.specs.Deep.{IsPart, IsPlace};
 ghost use Rattle.hol_terms.specs.Reach.{reach_of};
 ghost use Rattle.hol_terms.specs.Substitution.{close_free, free_variables, subst_bound, subst_free, subst_types, IsClosed, IsFreeVariable};
 ghost use Rattle.hol_terms.specs.Formula.{In, NotFreeIn};
 ghost use Rattle.hol_terms.specs.TermStore.{TermStore, Keeps, TermsApart, term_tree, tree_of, HasTerm, HasParts, PartsBelow};
 
-use crate::close::close_part;
-use crate::free_in::part_has;
-use crate::instantiate::instantiate_part;
+use crate::close::closed;
+use crate::free_in::term_has;
+use crate::instantiate::instantiated;
 use crate::memo::Part;
 use crate::node::{Node, TermId};
-use crate::open::open_part;
-use crate::subst::subst_part;
+use crate::open::opened;
+use crate::subst::replaced;
 use crate::typed::TermFault;
 use hol_types::{NameId, Subst, TypeFault, TypeId, TypeInstances, TypeNode};
 use std::alloc::{AllocError, Global};
-use std::collections::{HashMap, HashSet};
+use std::collections::HashMap;
 
 /// A store of names, types and terms, each kept once. A number stands for a text or a tree, two numbers are equal
 /// exactly where these are, and no call changes what a number stands for. Where a call that may add answers that there is
@@ -143,6 +145,17 @@ pub trait Terms {
         ensures keeps { Keeps (store self.old) (store self.new) }
         ensures rest { rest self.new ≡ rest self.old };
 
+    /// The number of a term that is known to be typed, given by the numbers of its parts. It is added where it is new,
+    /// with no walk over what it is made of.
+    fn make(&mut self, node: Node) -> Result<TermId, AllocError>
+        requires parts { HasParts (store self.old) node }
+        requires typed { Typed (tree_of (store self.old) node) }
+        ensures there { IfOk result (λ t. HasTerm (store self.new) t) }
+        ensures tree { IfOk result (λ t. term_tree (store self.new) t ≡ tree_of (store self.old) node) }
+        ensures apart { TermsApart (store self.new) }
+        ensures keeps { Keeps (store self.old) (store self.new) }
+        ensures rest { rest self.new ≡ rest self.old };
+
     /// A term by the numbers of its parts, which are smaller.
     fn node(&self, t: TermId) -> Node
         requires { HasTerm (store self.now) t }
@@ -164,6 +177,24 @@ pub trait Terms {
         requires { HasTerm (store self.now) t }
         ensures { result ≡ reach_of (term_tree (store self.now) t) };
 
+    /// The distinct parts of a deep term, smaller numbers first, and none of a term that isn't deep. A walk that remembers
+    /// what it did and goes through them first calls itself a few levels deep only. That each part is there serves no
+    /// result, and none is promised.
+    fn deep_parts(&self, t: TermId) -> Result<Vec<TermId>, AllocError>
+        requires { HasTerm (store self.now) t }
+        ensures { IfOk result (λ parts. AllByRecursion (IsPart (store self.now) (term_tree (store self.now) t)) parts.items) };
+
+    /// The distinct parts of a deep term, each with each number of binders around it, smaller numbers first, and none of
+    /// a term that isn't deep. With `loose`, what stands in a part that reaches no further than its index is left out.
+    fn deep_places(&self, t: TermId, loose: bool) -> Result<Vec<Part>, AllocError>
+        requires { HasTerm (store self.now) t }
+        ensures { IfOk result (λ places. AllByRecursion (IsPlace (store self.now) (term_tree (store self.now) t)) places.items) };
+
+    /// The distinct parts of a deep type, smaller numbers first, and none of a type that isn't deep.
+    fn deep_type_parts(&self, t: TypeId) -> Result<Vec<TypeId>, AllocError>
+        requires { HasType (store self.now).types t }
+        ensures { IfOk result (λ parts. AllByRecursion (HasType (store self.now).types) parts.items) };
+
     /// Whether a term has no loose Bound.
     final fn is_closed(&self, t: TermId) -> bool
         requires { HasTerm (store self.now) t }
@@ -178,8 +209,7 @@ pub trait Terms {
         requires term { HasTerm (store self.now) t }
         ensures { IfOk result (λ r. IsTrue r ↔ In (term_tree (store self.now) v) (free_variables (term_tree (store self.now) t))) }
     {
-        let mut seen = HashSet::new(self.allocator());
-        let free = part_has(self, &mut seen, v, t)?;
+        let free = term_has(self, v, t)?;
         Ok(free)
     }
 
@@ -197,8 +227,7 @@ pub trait Terms {
         ensures rest { rest self.new ≡ rest self.old }
     {
         let _typed = self.ty(u);
-        let mut memo = HashMap::new(self.allocator());
-        let r = subst_part(self, &mut memo, t, v, u)?;
+        let r = replaced(self, t, v, u)?;
         Ok(r)
     }
 
@@ -212,9 +241,7 @@ pub trait Terms {
         ensures keeps { Keeps (store self.old) (store self.new) }
         ensures rest { rest self.new ≡ rest self.old }
     {
-        let mut memo = HashMap::new(self.allocator());
-        let mut types = HashMap::new(self.allocator());
-        let r = instantiate_part(self, &mut memo, &mut types, t, s)?;
+        let r = instantiated(self, t, s)?;
         Ok(r)
     }
 
@@ -233,12 +260,7 @@ pub trait Terms {
         ensures rest { rest self.new ≡ rest self.old }
     {
         let _typed = self.ty(u);
-        let mut memo = HashMap::new(self.allocator());
-        let part = Part {
-            term: body,
-            index: 0,
-        };
-        let r = open_part(self, &mut memo, part, u)?;
+        let r = opened(self, body, u)?;
         Ok(r)
     }
 
@@ -254,9 +276,7 @@ pub trait Terms {
         ensures keeps { Keeps (store self.old) (store self.new) }
         ensures rest { rest self.new ≡ rest self.old }
     {
-        let mut memo = HashMap::new(self.allocator());
-        let part = Part { term: t, index: 0 };
-        let r = close_part(self, &mut memo, part, v)?;
+        let r = closed(self, t, v)?;
         Ok(r)
     }
 }

@@ -96,6 +96,40 @@ fn applied(base: &TermTables, own: &TermTables, f: TermId, x: TermId) -> Option<
     }
 }
 
+/// The type of a typed node.
+pub(crate) fn type_of_in(
+    base: &TermTables,
+    own: &mut TermTables,
+    node: Node,
+) -> Result<TypeId, AllocError>
+    requires lawful { IsTermStore (joined base.now own.old) }
+    requires parts { HasParts (joined base.now own.old) node }
+    requires typed { Typed (tree_of (joined base.now own.old) node) }
+    ensures there { IfOk result (λ t. HasType (joined base.now own.new).types t) }
+    ensures ty { IfOk result (λ t. type_tree (joined base.now own.new).types t ≡ ty_of (tree_of (joined base.now own.old) node)) }
+    ensures lawful { IsTermStore (joined base.now own.new) }
+    ensures grows { GrowsTo (joined base.now own.old) (joined base.now own.new) }
+    ensures nodes { own.new.nodes ≡ own.old.nodes }
+{
+    match node {
+        Node::Free(_, _, t) => Ok(t),
+        Node::Bound(_, t) => Ok(t),
+        Node::Const(_, t) => Ok(t),
+        Node::Num(_) => {
+            let t = plain_type_in(base, own, TypeNode::Int)?;
+            Ok(t)
+        }
+        Node::App(f, x) => match applied(base, own, f, x) {
+            Some(t) => Ok(t),
+            None => unreachable!(),
+        },
+        Node::Lam(t, b) => {
+            let u = lambda_type_in(base, own, t, b)?;
+            Ok(u)
+        }
+    }
+}
+
 /// The type of a node, where it is typed.
 pub(crate) fn typed_in(
     base: &TermTables,

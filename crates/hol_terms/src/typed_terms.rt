@@ -5,7 +5,6 @@ ghost use Rattle.hol_terms.specs.TermStore.{Keeps, term_tree, tree_of, HasTerm, 
 
 use crate::node::{Node, TermId};
 use crate::terms::Terms;
-use crate::typed::TermFault;
 use std::alloc::AllocError;
 
 /// The number of a typed term, given by the numbers of its parts. It is added where it is new.
@@ -17,9 +16,5 @@ pub fn make<S: Terms>(store: &mut S, node: Node) -> Result<TermId, AllocError>
     ensures keeps { Keeps (S.store store.old) (S.store store.new) }
     ensures rest { S.rest store.new ≡ S.rest store.old }
 {
-    match store.intern(node) {
-        Ok(t) => Ok(t),
-        Err(TermFault::Memory) => Err(AllocError),
-        Err(TermFault::Ill) => unreachable!(),
-    }
+    store.make(node)
 }

@@ -1,3 +1,4 @@
+pub mod ListLemmas
 pub mod OnceLemmas
 pub mod Places
 pub mod TypeLemmas

@@ -7,6 +7,7 @@ ghost use Rattle.hol_types.specs.KeepsTypes.{KeepsTypes};
 ghost use Rattle.hol_types.specs.TypeSubst.{HasSubst, subst_tree, instance_of};
 ghost use Rattle.hol_types.specs.Instance.{AreInstances, AllTypeInstances};
 
+use crate::deep::deep_parts;
 use crate::list::List;
 use crate::node::{NameId, TypeId, TypeNode};
 use crate::tables::{TypeFault, TypeTables, intern_in, known_node_in};
@@ -48,10 +49,9 @@ fn made(base: &TypeTables, own: &mut TypeTables, node: TypeNode) -> Result<TypeI
     }
 }
 
-/// The type with the given types for its variables, where the memo has what was made of types before. It takes one step
-/// for each distinct part that isn't among these.
+/// The type with the given types for its variables, where the memo has what was made of types before.
 #[cycle(instance)]
-pub fn instance_part(
+fn part_instance(
     base: &TypeTables,
     own: &mut TypeTables,
     alloc: Global,
@@ -110,8 +110,8 @@ fn instance_node(
         TypeNode::Fun(a, b) => {
             let from = *a;
             let to = *b;
-            let from = instance_part(base, own, alloc, memo, from, s)?;
-            let to = instance_part(base, own, alloc, memo, to, s)?;
+            let from = part_instance(base, own, alloc, memo, from, s)?;
+            let to = part_instance(base, own, alloc, memo, to, s)?;
             let r = made(base, own, TypeNode::Fun(from, to))?;
             Ok(r)
         }
@@ -148,10 +148,62 @@ fn instances_in(
 {
     let mut us = Vec::new(alloc);
     for t in ts {
-        let u = instance_part(base, own, alloc, memo, *t, s)?;
+        let u = part_instance(base, own, alloc, memo, *t, s)?;
         us.push(u)?;
     }
     Ok(us)
+}
+
+/// Puts what is made of the parts of a deep type into the memo.
+fn instances_beneath(
+    base: &TypeTables,
+    own: &mut TypeTables,
+    alloc: Global,
+    memo: &mut TypeInstances,
+    t: TypeId,
+    s: &[(NameId, TypeId)],
+) -> Result<(), AllocError>
+    requires lawful { IsTypeStore (joined base.now own.old) }
+    requires there { HasType (joined base.now own.old) t }
+    requires subst { HasSubst (joined base.now own.old) s.now }
+    requires memo { AllTypeInstances (joined base.now own.old) s.now memo.old }
+    ensures lawful { IsTypeStore (joined base.now own.new) }
+    ensures keeps { KeepsTypes (joined base.now own.old) (joined base.now own.new) }
+    ensures memo { OnOk result (AllTypeInstances (joined base.now own.new) s.now memo.new) }
+{
+    if memo.contains_key(&t) {
+        return Ok(());
+    }
+    let parts = deep_parts(base, own, alloc, t)?;
+    for part in parts.as_slice() {
+        part_instance(base, own, alloc, memo, *part, s)?;
+    }
+    Ok(())
+}
+
+/// The type with the given types for its variables, where the memo has what was made of types before. It takes one step
+/// for each distinct part that isn't among these.
+pub fn instance_part(
+    base: &TypeTables,
+    own: &mut TypeTables,
+    alloc: Global,
+    memo: &mut TypeInstances,
+    t: TypeId,
+    s: &[(NameId, TypeId)],
+) -> Result<TypeId, AllocError>
+    requires lawful { IsTypeStore (joined base.now own.old) }
+    requires there { HasType (joined base.now own.old) t }
+    requires subst { HasSubst (joined base.now own.old) s.now }
+    requires memo { AllTypeInstances (joined base.now own.old) s.now memo.old }
+    ensures there { IfOk result (λ r. HasType (joined base.now own.new) r) }
+    ensures tree { IfOk result (λ r. type_tree (joined base.now own.new) r ≡ instance_of (subst_tree (joined base.now own.old) s.now) (type_tree (joined base.now own.old) t)) }
+    ensures lawful { IsTypeStore (joined base.now own.new) }
+    ensures keeps { KeepsTypes (joined base.now own.old) (joined base.now own.new) }
+    ensures memo { OnOk result (AllTypeInstances (joined base.now own.new) s.now memo.new) }
+{
+    instances_beneath(base, own, alloc, memo, t, s)?;
+    let r = part_instance(base, own, alloc, memo, t, s)?;
+    Ok(r)
 }
 
 /// The type with the given types for its variables. It takes one step for each distinct part.

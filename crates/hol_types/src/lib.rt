@@ -1,6 +1,7 @@
 //! Types of simple type theory, each kept once.
 #![tactic(auto)]
 
+mod deep;
 mod file_name;
 mod instance;
 mod layer;
@@ -13,6 +14,7 @@ mod table;
 mod tables;
 mod types;
 
+pub use deep::deep_parts;
 pub use file_name::FileName;
 pub use instance::{Subst, TypeInstances, instance_in, instance_part};
 pub use layer::{find_bytes_in, find_in, item_in, number, number_in, number_of_bytes};

@@ -1,5 +1,5 @@
 //! What is kept of types, the numbers going on from those of another store.
-ghost use Rattle.std.specs.Prelude.{◌≡◌, ℕ, ◌≤◌, ◌↔◌, length, slice_get, IsTrue, IfOk, OnOk, OnErr, IfErr, None, if◌then◌else◌};
+ghost use Rattle.std.specs.Prelude.{◌≡◌, ℕ, ◌<◌, ◌≤◌, ◌↔◌, length, vec_len, vec_capacity, slice_get, IsTrue, IfOk, OnOk, OnErr, IfErr, None, if◌then◌else◌};
 ghost use Rattle.hol_types.specs.Once.{IsAdded};
 ghost use Rattle.hol_types.specs.TypeMark.{mark_of, cut, FitsMark};
 ghost use Rattle.hol_types.specs.TypeStore.{IsTypeStore, Grows, empty_types, joined, arity_of, with_arity, HasName, HasType, HasTypeParts, PartsBelow, HasArity, NamesApart, TreesApart, text_of, type_tree, tree_of};
@@ -38,6 +38,8 @@ pub struct TypeTables {
     names: Table<Bytes>,
     arities: IndexMap<NameId, u32>,
     nodes: Table<TypeNode>,
+    /// How deep each type is. Nothing that is promised rests on it.
+    heights: Vec<u32>,
     alloc: Global,
 }
 
@@ -57,6 +59,7 @@ impl TypeTables {
             names: Table::new(alloc),
             arities: IndexMap::new(alloc),
             nodes: Table::new(alloc),
+            heights: Vec::new(alloc),
             alloc,
         }
     }
@@ -168,8 +171,56 @@ pub fn intern_in(
     if !has_arity(base, own, &node) {
         return Err(TypeFault::Arity);
     }
+    let height = node_height(base, own, &node);
+    own.heights.reserve(1)?;
     let t = number_in(&base.nodes, &mut own.nodes, node)?;
+    note_height(&mut own.heights, own.nodes.len(), height);
     Ok(TypeId::new(t))
+}
+
+/// How deep a type is, 1 where it has no parts. It is a hint: no contract speaks of it.
+pub(crate) fn height_in(base: &TypeTables, own: &TypeTables, t: TypeId) -> u32 {
+    let at = t.index() as usize;
+    let before = base.heights.len();
+    let height = if at < before {
+        base.heights.get(at)
+    } else {
+        own.heights.get(at - before)
+    };
+    match height {
+        Some(height) => *height,
+        None => 0,
+    }
+}
+
+/// How deep the deepest of the types is.
+fn most_height(base: &TypeTables, own: &TypeTables, ts: &[TypeId]) -> u32 {
+    let mut most = 0;
+    for t in ts {
+        most = height_in(base, own, *t).max(most);
+    }
+    most
+}
+
+/// How deep a type is, given by its node.
+fn node_height(base: &TypeTables, own: &TypeTables, node: &TypeNode) -> u32 {
+    match node {
+        TypeNode::Fun(a, b) => {
+            let most = height_in(base, own, *a).max(height_in(base, own, *b));
+            most.saturating_add(1)
+        }
+        TypeNode::Cons(_, ts) => most_height(base, own, ts.as_slice()).saturating_add(1),
+        _ => 1,
+    }
+}
+
+/// Notes how deep the last of so many types is, where that isn't known.
+fn note_height(heights: &mut Vec<u32>, types: usize, height: u32)
+    requires { vec_len heights.old < vec_capacity heights.old }
+{
+    if heights.len() < types {
+        heights.push_reserved(height);
+    }
 }
 
 /// The node of a type.
@@ -222,5 +273,7 @@ pub fn reset_in(base: &TypeTables, own: &mut TypeTables, mark: TypeMark)
 {
     own.names.truncate(mark.names - base.names.len());
     own.arities.truncate(mark.arities - base.arities.len());
-    own.nodes.truncate(mark.nodes - base.nodes.len());
+    let kept = mark.nodes - base.nodes.len();
+    own.nodes.truncate(kept);
+    own.heights.truncate(kept);
 }

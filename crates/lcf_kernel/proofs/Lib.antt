@@ -1,6 +1,7 @@
 pub mod IdLemmas
 pub mod MergeLemmas
 pub mod KeepLemmas
+pub mod KeptLemmas
 pub mod HypLemmas
 pub mod RuleLemmas
 pub mod KernelRules

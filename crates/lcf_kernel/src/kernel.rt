@@ -20,7 +20,7 @@ use crate::thm::{Made, Thm, ThmId};
 use hol_formulas::formula::Constants;
 use hol_formulas::type_variables::type_variables_of;
 use hol_formulas::variables::variables_of;
-use hol_terms::{Frozen, Mark, Node, Store, TermFault, TermId, Terms};
+use hol_terms::{Frozen, Mark, Node, Part, Store, TermFault, TermId, Terms};
 use hol_types::{List, NameId, Subst, TypeFault, TypeId, TypeInstances, TypeNode};
 use std::alloc::{AllocError, Global};
 use std::marker::Model;
@@ -398,6 +398,11 @@ impl<'b> Terms for Kernel<'b> {
         made
     }
 
+    fn make(&mut self, node: Node) -> Result<TermId, AllocError> {
+        let made = self.store.make(node);
+        made
+    }
+
     fn node(&self, t: TermId) -> Node {
         self.store().node(t)
     }
@@ -408,5 +413,17 @@ impl<'b> Terms for Kernel<'b> {
 
     fn reach(&self, t: TermId) -> u32 {
         self.store().reach(t)
+    }
+
+    fn deep_parts(&self, t: TermId) -> Result<Vec<TermId>, AllocError> {
+        self.store().deep_parts(t)
+    }
+
+    fn deep_places(&self, t: TermId, loose: bool) -> Result<Vec<Part>, AllocError> {
+        self.store().deep_places(t, loose)
+    }
+
+    fn deep_type_parts(&self, t: TypeId) -> Result<Vec<TypeId>, AllocError> {
+        self.store().deep_type_parts(t)
     }
 }

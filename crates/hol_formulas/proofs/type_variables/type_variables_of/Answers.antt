@@ -8,22 +8,22 @@ use Rattle.hol_formulas.proofs.TreesLemmas.{in_trees}
 use Rattle.hol_formulas.proofs.TypesFoundLemmas.{adds_then, found_more, found_all, in_type_variables, from_type_variables_at, are_type_variables}
 use Rattle.hol_formulas.proofs.type_variables.type_variables_of.Goals as goal
 
-pub find_in_part-requires-clause-there : goal.find_in_part-requires-clause-there
-find_in_part-requires-clause-there g c = (c.requires.each c.t-item.result (In-from_Contains c.args.ts.now c.t-item.result (c.loop-t.t-index, c.loop-t-test.true, sym c.t-item.is))).there
+pub find_in_term-requires-clause-there : goal.find_in_term-requires-clause-there
+find_in_term-requires-clause-there g c = (c.requires.each c.t-item.result (In-from_Contains c.args.ts.now c.t-item.result (c.loop-t.t-index, c.loop-t-test.true, sym c.t-item.is))).there
 
 pub loop-t-preserved : goal.loop-t-preserved
 loop-t-preserved g c =
     let s = g.S.Terms.store c.args.store.now in
     let old = c.loop-t.found.items in
-    let new = c.find_in_part.new.found.items in
-    let adds = c.in_ok-find_in_part.ensures.adds in
+    let new = c.find_in_term.new.found.items in
+    let adds = c.in_ok-find_in_term.ensures.adds in
     let there = in_trees s c.t-item.result c.args.ts.now (In-from_Contains c.args.ts.now c.t-item.result (c.loop-t.t-index, c.loop-t-test.true, sym c.t-item.is)) in
     let all = type_variables_in (trees s c.args.ts.now) in
     record {
-      types = c.in_ok-find_in_part.ensures.types;
-      terms = c.in_ok-find_in_part.ensures.terms;
+      types = c.in_ok-find_in_term.ensures.types;
+      terms = c.in_ok-find_in_term.ensures.terms;
       adds = adds_then s.types [] old new all (type_variables (term_tree s c.t-item.result)) all (λ n i. i) (λ n i. in_type_variables (trees s c.args.ts.now) (term_tree s c.t-item.result) n there i) c.loop-t.invariant.adds adds;
-      done = found_more s.types c.args.ts.now (λ t. type_variables (term_tree s t)) old new c.loop-t.t-index c.t-item.result c.loop-t-test.true c.t-item.is adds c.in_ok-find_in_part.ensures.finds c.loop-t.invariant.done;
+      done = found_more s.types c.args.ts.now (λ t. type_variables (term_tree s t)) old new c.loop-t.t-index c.t-item.result c.loop-t-test.true c.t-item.is adds c.in_ok-find_in_term.ensures.finds c.loop-t.invariant.done;
     }
 
 pub returns : goal.returns

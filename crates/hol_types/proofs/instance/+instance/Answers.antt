@@ -7,8 +7,8 @@ use Rattle.hol_types.proofs.KeepsLemmas.{keeps_types_trans}
 use Rattle.hol_types.proofs.InstanceLemmas.{has_subst_kept, subst_tree_kept, given_there, given_tree, not_given_tree, one_more, all_at, type_instances_kept, type_instances_put}
 use Rattle.hol_types.proofs.instance.+instance.Goals as goal
 
-pub instance_node-instance_part-requires-in-Fun : goal.instance_node-instance_part-requires-in-Fun
-instance_node-instance_part-requires-in-Fun t c =
+pub instance_node-part_instance-requires-in-Fun : goal.instance_node-part_instance-requires-in-Fun
+instance_node-part_instance-requires-in-Fun t c =
     let p = rw c.in-Fun.is at c.known_node_in.ensures.parts in
     let k = c.in_ok-from-in-Fun.ensures.keeps in
     (omega arith, (c.in_ok-from-in-Fun.ensures.lawful, (k.types c.in-Fun.b (omega arith), (has_subst_kept _ _ k c.args.s.now c.requires.subst, c.in_ok-from-in-Fun.ensures.memo))))
@@ -68,8 +68,8 @@ instance_node-returns-in_ok-r-in-Cons-clause-keeps t c = keeps_types_trans c.in_
 pub instance_node-returns-in_err-to-in-Fun-clause-keeps : goal.instance_node-returns-in_err-to-in-Fun-clause-keeps
 instance_node-returns-in_err-to-in-Fun-clause-keeps t c = keeps_types_trans c.in_ok-from-in-Fun.ensures.keeps c.in_err-to-in-Fun.ensures.keeps
 
-pub instances_in-instance_part-requires : goal.instances_in-instance_part-requires
-instances_in-instance_part-requires t c =
+pub instances_in-part_instance-requires : goal.instances_in-part_instance-requires
+instances_in-part_instance-requires t c =
     let low : c.t-item.result < c.args.above = subst (λ x. x < c.args.above) (sym c.t-item.is) (all_at (λ x. x < c.args.above) c.args.ts.now c.requires.below c.loop-t.t-index c.t-item.result c.loop-t-test.true) in
     let k = c.loop-t.invariant.keeps in
     (omega arith, (c.loop-t.invariant.lawful, (k.types c.t-item.result (omega arith), (has_subst_kept _ _ k c.args.s.now c.requires.subst, c.loop-t.invariant.memo))))
@@ -84,7 +84,7 @@ pub instances_in-loop-t-preserved : goal.instances_in-loop-t-preserved
 instances_in-loop-t-preserved t c =
     let s = joined c.args.base.now c.args.own.now in
     let m = joined c.args.base.now c.loop-t.own in
-    let u = joined c.args.base.now c.instance_part.new.own in
+    let u = joined c.args.base.now c.part_instance.new.own in
     let low : c.t-item.result < c.args.above = subst (λ x. x < c.args.above) (sym c.t-item.is) (all_at (λ x. x < c.args.above) c.args.ts.now c.requires.below c.loop-t.t-index c.t-item.result c.loop-t-test.true) in
     let has : HasType s c.t-item.result = omega arith in
     let same = subst_tree_kept s m c.loop-t.invariant.keeps c.args.s.now c.requires.subst in
@@ -106,14 +106,14 @@ pub instance_node-returns-in_ok-r-in-Cons-clause-memo : goal.instance_node-retur
 instance_node-returns-in_ok-r-in-Cons-clause-memo t c =
     type_instances_kept c.in_ok-r-in-Cons.ensures.keeps (has_subst_kept _ _ c.in_ok-us-in-Cons.ensures.keeps c.args.s.now c.requires.subst) c.in_ok-us-in-Cons.ensures.memo
 
-pub instance_part-returns-in-Some-clause-there : goal.instance_part-returns-in-Some-clause-there
-instance_part-returns-in-Some-clause-there t c = (c.requires.memo.each c.args.t c.in-Some.r (sym c.get.ensures.value ∙ sym c.in-Some.ensures)).made
+pub part_instance-returns-in-Some-clause-there : goal.part_instance-returns-in-Some-clause-there
+part_instance-returns-in-Some-clause-there t c = (c.requires.memo.each c.args.t c.in-Some.r (sym c.get.ensures.value ∙ sym c.in-Some.ensures)).made
 
-pub instance_part-returns-in-Some-clause-tree : goal.instance_part-returns-in-Some-clause-tree
-instance_part-returns-in-Some-clause-tree t c = (c.requires.memo.each c.args.t c.in-Some.r (sym c.get.ensures.value ∙ sym c.in-Some.ensures)).tree
+pub part_instance-returns-in-Some-clause-tree : goal.part_instance-returns-in-Some-clause-tree
+part_instance-returns-in-Some-clause-tree t c = (c.requires.memo.each c.args.t c.in-Some.r (sym c.get.ensures.value ∙ sym c.in-Some.ensures)).tree
 
-pub instance_part-returns-in_ok-insert-in-None-clause-memo : goal.instance_part-returns-in_ok-insert-in-None-clause-memo
-instance_part-returns-in_ok-insert-in-None-clause-memo t c =
+pub part_instance-returns-in_ok-insert-in-None-clause-memo : goal.part_instance-returns-in_ok-insert-in-None-clause-memo
+part_instance-returns-in_ok-insert-in-None-clause-memo t c =
     let s = joined c.args.base.now c.args.own.now in
     let u = joined c.args.base.now c.instance_node.new.own in
     let k = c.in_ok-r-in-None.ensures.keeps in

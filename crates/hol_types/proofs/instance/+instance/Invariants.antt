@@ -5,8 +5,8 @@ use Rattle.hol_types.specs.TypeSubst.{subst_tree}
 use Rattle.hol_types.specs.Instance.{AreInstances, AllTypeInstances}
 use Rattle.hol_types.proofs.instance.+instance.Given as goal
 
-abbrev pub decreases-instance_part : goal.decreases-instance_part
-decreases-instance_part l = 3 * l.t + 2
+abbrev pub decreases-part_instance : goal.decreases-part_instance
+decreases-part_instance l = 3 * l.t + 2
 
 abbrev pub decreases-instance_node : goal.decreases-instance_node
 decreases-instance_node l = 3 * l.t + 1

@@ -42,3 +42,6 @@ returns-in_err-t-clause-apart c =
 
 pub returns-clause-there : goal.returns-clause-there
 returns-clause-there c = rw (← c.base.view_is, c.new.ensures) (slice_get_within _ _ _ c.in_ok-t.ensures.at)
+
+pub returns-in_err-reserve-clause-apart : goal.returns-in_err-reserve-clause-apart
+returns-in_err-reserve-clause-apart c = let is = rw (← c.own.view_is) at c.requires.lawful in trees_apart _ is

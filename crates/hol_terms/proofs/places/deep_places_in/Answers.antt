@@ -1,0 +1,5 @@
+use Rattle.hol_types.proofs.ListLemmas.{all_permuted}
+use Rattle.hol_terms.proofs.places.deep_places_in.Goals as goal
+
+pub returns : goal.returns
+returns c = all_permuted _ _ _ c.sort_unstable.ensures.permutation c.in_ok-places.ensures

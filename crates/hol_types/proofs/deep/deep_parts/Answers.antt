@@ -1,0 +1,6 @@
+use Rattle.hol_types.specs.TypeStore.{HasType, joined}
+use Rattle.hol_types.proofs.ListLemmas.{all_permuted}
+use Rattle.hol_types.proofs.deep.deep_parts.Goals as goal
+
+pub returns : goal.returns
+returns c = all_permuted _ _ _ c.sort_unstable.ensures.permutation c.in_ok-parts.ensures
