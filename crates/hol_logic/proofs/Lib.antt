@@ -4,3 +4,7 @@ pub mod HypothesisLemmas
 pub mod EquationLemmas
 pub mod DefinitionLemmas
 pub mod InstanceLemmas
+pub mod UnderLemmas
+pub mod QuantifierLemmas
+pub mod ExpansionLemmas
+pub mod QuantifiedLemmas

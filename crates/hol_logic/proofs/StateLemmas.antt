@@ -8,12 +8,11 @@ use Rattle.hol_terms.specs.Term.{Term, LamTm, ty_of}
 use Rattle.hol_types.specs.Ty.{Ty, FunTy}
 use Rattle.hol_terms.specs.Constants.{equation, implication}
 use Rattle.hol_terms.specs.Substitution.{subst_bound}
-use Rattle.hol_terms.specs.TermStore.{HasTerm, term_tree}
+use Rattle.hol_terms.specs.TermStore.{term_tree}
 use Rattle.hol_terms.specs.Formula.{In, IsFormula, SameMembers}
 use Rattle.hol_terms.proofs.SetLemmas.{same_refl, same_trans, in_append_left, in_append_right, in_append_either}
 use Rattle.hol_formulas.specs.declared.formula.Sides.{Sides}
 use Rattle.lcf_kernel.specs.declared.thm.Thm.{Thm}
-use Rattle.hol_formulas.specs.Constants.{IsAt}
 use Rattle.lcf_kernel.specs.RuleForms.{IsSubstitution}
 use Rattle.lcf_kernel.specs.KernelState.{KernelState, HasThm, concl_of, hyps_of, bare_of, KeepsAll}
 use Rattle.hol_terms.proofs.FormulaLemmas.{Has, equation_left, equation_right}
@@ -41,16 +40,6 @@ equates_keep {k} {l} {a} {p} g e = record {
   concl = rw (g.records.store.trees p.left e.left, g.records.store.trees p.right e.right) (g.records.concls a e.there ∙ e.concl);
   formula = subst (λ f. IsFormula f) (sym (g.records.concls a e.there)) e.formula;
 }
-
-pub term_kept : {k l : KernelState} {t : ℕ} → KeepsAll k l → HasTerm k.store t → HasTerm l.store t
-term_kept {t} g h = g.records.store.terms t h
-
-pub tree_kept : {k l : KernelState} {t : ℕ} → KeepsAll k l → HasTerm k.store t → term_tree l.store t ≡ term_tree k.store t
-tree_kept {t} g h = g.records.store.trees t h
-
--- a number's tree, in a kernel that went on
-pub at_kept : {k l : KernelState} {t : ℕ} {f : Term} → KeepsAll k l → IsAt k.store t f → IsAt l.store t f
-at_kept {t} g h = record { there = g.records.store.terms t h.there; is = g.records.store.trees t h.there ∙ h.is }
 
 -- ---- the same statement, written otherwise
 

@@ -5,13 +5,13 @@ ghost use Rattle.hol_types.specs.TypeStore.{HasType, type_tree};
 ghost use Rattle.hol_terms.specs.Term.{BoundTm, AppTm, LamTm, BoundsFit, Typed, ty_of};
 ghost use Rattle.hol_terms.specs.Substitution.{IsClosed, subst_bound};
 ghost use Rattle.hol_terms.specs.TermStore.{HasTerm, term_tree};
-ghost use Rattle.hol_terms.specs.Constants.{equation, ex_tm, exists, for_all};
+ghost use Rattle.hol_terms.specs.Constants.{equation, ex_tm, exists, for_all, chosen, negation, disjunction};
 ghost use Rattle.hol_formulas.specs.Constants.{IsAt, IsType};
 ghost use Rattle.lcf_kernel.specs.KernelState.{KeepsAll};
 
-use hol_formulas::binder::{make_all, of_predicates};
+use hol_formulas::binder::{make_all, make_choice, of_predicates};
 use hol_formulas::equation::make_eq;
-use hol_formulas::formula::function_type;
+use hol_formulas::formula::{function_type, make_not, make_or};
 use hol_terms::{Node, TermId, Terms, make};
 use hol_types::TypeId;
 use lcf_kernel::Kernel;
@@ -142,7 +142,7 @@ pub(crate) fn some(k: &mut Kernel<'_>, p: TermId, ty: TypeId) -> Result<TermId, 
 
 /// A place for predicates on a type.
 #[tactic(auto, using(lcf_kernel::proofs::KeepLemmas::keeps_all_same, lcf_kernel::proofs::KeepLemmas::keeps_all_trans))]
-fn place_of_predicate(k: &mut Kernel<'_>, ty: TypeId) -> Result<TermId, AllocError>
+pub(crate) fn place_of_predicate(k: &mut Kernel<'_>, ty: TypeId) -> Result<TermId, AllocError>
     requires { HasType k.old.store.types ty }
     ensures is { IfOk result (λ t. IsAt k.new.store t (BoundTm 0 (FunTy (type_tree k.old.store.types ty) BoolTy))) }
     ensures keeps { KeepsAll k.old k.new }
@@ -204,4 +204,46 @@ pub(crate) fn place_right(k: &mut Kernel<'_>, t: TermId) -> Result<TermId, Alloc
     let right = place(k, ty)?;
     let r = equal(k, t, right)?;
     Ok(r)
+}
+
+/// The negation of a formula.
+#[tactic(auto, using(lcf_kernel::proofs::KeepLemmas::keeps_all_rest))]
+pub(crate) fn negated(k: &mut Kernel<'_>, a: TermId) -> Result<TermId, AllocError>
+    requires there { HasTerm k.old.store a }
+    requires bool { ty_of (term_tree k.old.store a) ≡ BoolTy }
+    ensures is { IfOk result (λ t. IsAt k.new.store t (negation (term_tree k.old.store a))) }
+    ensures keeps { KeepsAll k.old k.new }
+{
+    let constants = k.constants();
+    let t = make_not(k, constants, a)?;
+    Ok(t)
+}
+
+/// The disjunction of two formulas.
+#[tactic(auto, using(lcf_kernel::proofs::KeepLemmas::keeps_all_rest))]
+pub(crate) fn either(k: &mut Kernel<'_>, a: TermId, b: TermId) -> Result<TermId, AllocError>
+    requires left { HasTerm k.old.store a }
+    requires right { HasTerm k.old.store b }
+    requires left_bool { ty_of (term_tree k.old.store a) ≡ BoolTy }
+    requires right_bool { ty_of (term_tree k.old.store b) ≡ BoolTy }
+    ensures is { IfOk result (λ t. IsAt k.new.store t (disjunction (term_tree k.old.store a) (term_tree k.old.store b))) }
+    ensures keeps { KeepsAll k.old k.new }
+{
+    let constants = k.constants();
+    let t = make_or(k, constants, a, b)?;
+    Ok(t)
+}
+
+/// One of which a predicate on a type holds, where there is one.
+#[tactic(auto, using(lcf_kernel::proofs::KeepLemmas::keeps_all_rest))]
+pub(crate) fn chosen(k: &mut Kernel<'_>, p: TermId, ty: TypeId) -> Result<TermId, AllocError>
+    requires there { HasTerm k.old.store p }
+    requires ty { HasType k.old.store.types ty }
+    requires predicate { ty_of (term_tree k.old.store p) ≡ FunTy (type_tree k.old.store.types ty) BoolTy }
+    ensures is { IfOk result (λ t. IsAt k.new.store t (chosen (type_tree k.old.store.types ty) (term_tree k.old.store p))) }
+    ensures keeps { KeepsAll k.old k.new }
+{
+    let constants = k.constants();
+    let t = make_choice(k, constants, p, ty)?;
+    Ok(t)
 }

@@ -3,4 +3,6 @@
 #![tactic(auto)]
 
 #[cfg(test)]
+mod duals;
+#[cfg(test)]
 mod rules;

@@ -7,6 +7,7 @@ ghost use Rattle.hol_terms.specs.TermStore.{HasTerm, Keeps, term_tree};
 ghost use Rattle.lcf_kernel.specs.KernelState.{HasThm, records_of};
 ghost use Rattle.hol_match.specs.Inst.{HasInst};
 
+use crate::duals::each_law;
 use hol_logic::{cong, cut, drop_definition, instance, sym, trans, under_all, under_ex};
 use hol_match::{Inst, match_term};
 use hol_terms::{Base, FreeKind, Frozen, Node, TermId, Terms};
@@ -32,7 +33,7 @@ enum Formula {
 
 // The variable x.
 #[tactic(auto, using(hol_terms::proofs::KeepsLemmas::keeps_trans))]
-fn variable(k: &mut Kernel<'_>) -> Result<TermId, Fail>
+pub(crate) fn variable(k: &mut Kernel<'_>) -> Result<TermId, Fail>
     ensures there { IfOk result (λ t. HasTerm k.new.store t) }
     ensures keeps { Keeps k.old.store k.new.store }
     ensures records { records_of k.new ≡ records_of k.old }
@@ -60,7 +61,7 @@ fn negation(k: &mut Kernel<'_>, of_variable: bool) -> Result<TermId, Fail>
 
 // The constant of a quantifier over Bool.
 #[tactic(auto, using(hol_terms::proofs::KeepsLemmas::keeps_trans))]
-fn quantifier(k: &mut Kernel<'_>, name: &[u8]) -> Result<TermId, Fail>
+pub(crate) fn quantifier(k: &mut Kernel<'_>, name: &[u8]) -> Result<TermId, Fail>
     ensures there { IfOk result (λ t. HasTerm k.new.store t) }
     ensures keeps { Keeps k.old.store k.new.store }
     ensures records { records_of k.new ≡ records_of k.old }
@@ -114,7 +115,7 @@ fn term(k: &mut Kernel<'_>, f: Formula) -> Result<TermId, Fail>
 
 // The constant `=` on Bool.
 #[tactic(auto, using(hol_terms::proofs::KeepsLemmas::keeps_trans))]
-fn equality(k: &mut Kernel<'_>) -> Result<TermId, Fail>
+pub(crate) fn equality(k: &mut Kernel<'_>) -> Result<TermId, Fail>
     ensures there { IfOk result (λ t. HasTerm k.new.store t) }
     ensures keeps { Keeps k.old.store k.new.store }
     ensures records { records_of k.new ≡ records_of k.old }
@@ -143,7 +144,7 @@ fn equation(rt: &impl Abort, k: &mut Kernel<'_>, a: Formula, b: Formula) -> Resu
 }
 
 // `(= a b)` from itself.
-#[tactic(auto, using(crate::proofs::TestLemmas::has_kept, crate::proofs::TestLemmas::has_before))]
+#[tactic(auto, using(lcf_kernel::proofs::KeptLemmas::has_kept, crate::proofs::TestLemmas::has_before))]
 fn assumed(rt: &impl Abort, k: &mut Kernel<'_>, a: Formula, b: Formula) -> Result<ThmId, Fail>
     ensures there { IfOk result (λ t. HasThm k.new t) }
     ensures records { (t : ℕ) → HasThm k.old t → HasThm k.new t }
@@ -154,7 +155,7 @@ fn assumed(rt: &impl Abort, k: &mut Kernel<'_>, a: Formula, b: Formula) -> Resul
 }
 
 // `true` under `(= a b)`.
-#[tactic(auto, using(crate::proofs::TestLemmas::has_kept, crate::proofs::TestLemmas::has_before))]
+#[tactic(auto, using(lcf_kernel::proofs::KeptLemmas::has_kept, crate::proofs::TestLemmas::has_before))]
 fn truth_under(rt: &impl Abort, k: &mut Kernel<'_>, a: Formula, b: Formula) -> Result<ThmId, Fail>
     ensures there { IfOk result (λ t. HasThm k.new t) }
     ensures records { (t : ℕ) → HasThm k.old t → HasThm k.new t }
@@ -194,7 +195,7 @@ fn assert_truth(rt: &impl Abort, k: &Kernel<'_>, t: ThmId)
 }
 
 // From true = x, x = true, and true = true; x = true doesn't go on from true = x twice. `true` is no equation.
-#[tactic(auto, using(crate::proofs::TestLemmas::has_kept))]
+#[tactic(auto, using(lcf_kernel::proofs::KeptLemmas::has_kept))]
 fn equations(rt: &impl Abort, k: &mut Kernel<'_>) -> Result<(), Fail> {
     let a = assumed(rt, k, Formula::True, Formula::X)?;
     let back = sym(k, a)?;
@@ -208,7 +209,7 @@ fn equations(rt: &impl Abort, k: &mut Kernel<'_>) -> Result<(), Fail> {
 }
 
 // From not = not and true = x, (not true) = (not x); truth values are no functions.
-#[tactic(auto, using(crate::proofs::TestLemmas::has_kept, crate::proofs::TestLemmas::not_closed))]
+#[tactic(auto, using(lcf_kernel::proofs::KeptLemmas::has_kept, hol_formulas::proofs::SmallLemmas::not_closed))]
 fn congruences(rt: &impl Abort, k: &mut Kernel<'_>) -> Result<(), Fail> {
     let constants = k.constants();
     let functions = k.refl(constants.not)?;
@@ -220,7 +221,7 @@ fn congruences(rt: &impl Abort, k: &mut Kernel<'_>) -> Result<(), Fail> {
 }
 
 // `true` under true = true, which is proved.
-#[tactic(auto, using(crate::proofs::TestLemmas::has_kept, crate::proofs::TestLemmas::truth_closed))]
+#[tactic(auto, using(lcf_kernel::proofs::KeptLemmas::has_kept, hol_formulas::proofs::SmallLemmas::truth_closed))]
 fn cuts(rt: &impl Abort, k: &mut Kernel<'_>) -> Result<(), Fail> {
     let constants = k.constants();
     let proved = k.refl(constants.truth)?;
@@ -231,7 +232,7 @@ fn cuts(rt: &impl Abort, k: &mut Kernel<'_>) -> Result<(), Fail> {
 }
 
 // true = true is no hypothesis of what is under x = true.
-#[tactic(auto, using(crate::proofs::TestLemmas::has_kept, crate::proofs::TestLemmas::truth_closed))]
+#[tactic(auto, using(lcf_kernel::proofs::KeptLemmas::has_kept, hol_formulas::proofs::SmallLemmas::truth_closed))]
 fn no_cuts(rt: &impl Abort, k: &mut Kernel<'_>) -> Result<(), Fail> {
     let constants = k.constants();
     let proved = k.refl(constants.truth)?;
@@ -241,7 +242,7 @@ fn no_cuts(rt: &impl Abort, k: &mut Kernel<'_>) -> Result<(), Fail> {
 }
 
 // From true = false, the same of all x, and of some.
-#[tactic(auto, using(crate::proofs::TestLemmas::has_kept, crate::proofs::TestLemmas::has_before))]
+#[tactic(auto, using(lcf_kernel::proofs::KeptLemmas::has_kept, crate::proofs::TestLemmas::has_before))]
 fn all_values(rt: &impl Abort, k: &mut Kernel<'_>) -> Result<(), Fail> {
     let a = assumed(rt, k, Formula::True, Formula::False)?;
     let x = variable(k)?;
@@ -250,7 +251,7 @@ fn all_values(rt: &impl Abort, k: &mut Kernel<'_>) -> Result<(), Fail> {
     Ok(())
 }
 
-#[tactic(auto, using(crate::proofs::TestLemmas::has_kept, crate::proofs::TestLemmas::has_before))]
+#[tactic(auto, using(lcf_kernel::proofs::KeptLemmas::has_kept, crate::proofs::TestLemmas::has_before))]
 fn some_value(rt: &impl Abort, k: &mut Kernel<'_>) -> Result<(), Fail> {
     let a = assumed(rt, k, Formula::True, Formula::False)?;
     let x = variable(k)?;
@@ -260,7 +261,7 @@ fn some_value(rt: &impl Abort, k: &mut Kernel<'_>) -> Result<(), Fail> {
 }
 
 // x is free in the hypothesis true = x.
-#[tactic(auto, using(crate::proofs::TestLemmas::has_kept, crate::proofs::TestLemmas::has_before))]
+#[tactic(auto, using(lcf_kernel::proofs::KeptLemmas::has_kept, crate::proofs::TestLemmas::has_before))]
 fn bound_hypotheses(rt: &impl Abort, k: &mut Kernel<'_>) -> Result<(), Fail> {
     let a = assumed(rt, k, Formula::True, Formula::X)?;
     let x = variable(k)?;
@@ -271,7 +272,7 @@ fn bound_hypotheses(rt: &impl Abort, k: &mut Kernel<'_>) -> Result<(), Fail> {
 }
 
 // `true` under x = true holds without it. x = true doesn't.
-#[tactic(auto, using(crate::proofs::TestLemmas::has_kept, crate::proofs::TestLemmas::has_before))]
+#[tactic(auto, using(lcf_kernel::proofs::KeptLemmas::has_kept, crate::proofs::TestLemmas::has_before))]
 fn definitions(rt: &impl Abort, k: &mut Kernel<'_>) -> Result<(), Fail> {
     let under = truth_under(rt, k, Formula::X, Formula::True)?;
     let d = equation(rt, k, Formula::X, Formula::True)?;
@@ -296,7 +297,7 @@ fn truth_for_x(k: &mut Kernel<'_>) -> Result<Inst, Fail>
 }
 
 // From x = x, true = true.
-#[tactic(auto, using(crate::proofs::TestLemmas::has_kept, crate::proofs::TestLemmas::has_before))]
+#[tactic(auto, using(lcf_kernel::proofs::KeptLemmas::has_kept, crate::proofs::TestLemmas::has_before))]
 fn instances(rt: &impl Abort, k: &mut Kernel<'_>) -> Result<(), Fail> {
     let x = variable(k)?;
     assert!(rt; k.is_closed(x));
@@ -316,6 +317,7 @@ fn no_instances(rt: &impl Abort, k: &mut Kernel<'_>) -> Result<(), Fail> {
 }
 
 fn each_rule(rt: &impl Abort, k: &mut Kernel<'_>) -> Result<(), Fail> {
+    each_law(rt, k)?;
     equations(rt, k)?;
     congruences(rt, k)?;
     cuts(rt, k)?;
@@ -328,7 +330,7 @@ fn each_rule(rt: &impl Abort, k: &mut Kernel<'_>) -> Result<(), Fail> {
     no_instances(rt, k)
 }
 
-#[tactic(auto, using(crate::proofs::TestLemmas::no_formulas_there, crate::proofs::TestLemmas::no_context))]
+#[tactic(auto, using(hol_formulas::proofs::SmallLemmas::no_formulas_there, hol_formulas::proofs::SmallLemmas::no_context))]
 fn over_nothing(rt: &impl Abort, alloc: Global, frozen: &Frozen) -> Result<(), Fail> {
     let mut k = Kernel::new(alloc, frozen, &[], &[])?;
     each_rule(rt, &mut k)

@@ -4,7 +4,8 @@ use Rattle.hol_terms.specs.TermStore.{term_tree}
 use Rattle.hol_terms.specs.Derivable.{abstraction}
 use Rattle.hol_terms.proofs.SetLemmas.{same_trans}
 use Rattle.lcf_kernel.proofs.KeepLemmas.{keeps_all_trans}
-use Rattle.hol_logic.proofs.StateLemmas.{term_kept, tree_kept, passed_shape}
+use Rattle.lcf_kernel.proofs.KeptLemmas.{term_kept, tree_kept}
+use Rattle.hol_logic.proofs.StateLemmas.{passed_shape}
 use Rattle.hol_logic.proofs.EquationLemmas.{agree_from, agree_says, general_same, general_after}
 use Rattle.hol_logic.proofs.abstraction.abstracted.Goals as goal
 

@@ -5,7 +5,8 @@ use Rattle.hol_terms.specs.Substitution.{IsFreeVariable}
 use Rattle.hol_terms.specs.Formula.{IsTerm}
 use Rattle.hol_terms.specs.Derivable.{abstraction}
 use Rattle.lcf_kernel.proofs.KeepLemmas.{keeps_all_trans}
-use Rattle.hol_logic.proofs.StateLemmas.{equates_keep, states_keep, term_kept, tree_kept, at_kept, left_has, right_has}
+use Rattle.lcf_kernel.proofs.KeptLemmas.{term_kept, tree_kept, at_kept}
+use Rattle.hol_logic.proofs.StateLemmas.{equates_keep, states_keep, left_has, right_has}
 use Rattle.hol_logic.proofs.EquationLemmas.{equates_states, turned_states, turned_by, equal_of, equal_from}
 use Rattle.hol_logic.proofs.abstraction.agreeing.Goals as goal
 

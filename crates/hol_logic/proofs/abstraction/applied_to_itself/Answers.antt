@@ -1,6 +1,6 @@
 use Rattle.hol_terms.specs.TermStore.{term_tree}
 use Rattle.lcf_kernel.proofs.KeepLemmas.{keeps_all_trans}
-use Rattle.hol_logic.proofs.StateLemmas.{term_kept, tree_kept}
+use Rattle.lcf_kernel.proofs.KeptLemmas.{term_kept, tree_kept}
 use Rattle.hol_logic.proofs.EquationLemmas.{itself_typed}
 use Rattle.hol_logic.proofs.abstraction.applied_to_itself.Goals as goal
 

@@ -6,7 +6,8 @@ use Rattle.hol_terms.specs.TermStore.{term_tree}
 use Rattle.hol_terms.specs.Constants.{equation, for_all}
 use Rattle.hol_terms.specs.Derivable.{abstraction}
 use Rattle.lcf_kernel.proofs.KeepLemmas.{keeps_all_trans}
-use Rattle.hol_logic.proofs.StateLemmas.{states_keep, tree_kept, passed_shape}
+use Rattle.lcf_kernel.proofs.KeptLemmas.{tree_kept}
+use Rattle.hol_logic.proofs.StateLemmas.{states_keep, passed_shape}
 use Rattle.hol_logic.proofs.EquationLemmas.{equal_from, type_is, under_says, states_through}
 use Rattle.hol_logic.proofs.BodyLemmas.{lambda_is, in_app, in_const, in_place}
 use Rattle.hol_logic.proofs.abstraction.under_all.Goals as goal

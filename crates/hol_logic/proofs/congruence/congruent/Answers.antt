@@ -4,7 +4,8 @@ use Rattle.hol_terms.specs.Formula.{SameMembers}
 use Rattle.hol_terms.proofs.SetLemmas.{same_refl}
 use Rattle.lcf_kernel.specs.KernelState.{hyps_of, bare_of}
 use Rattle.lcf_kernel.proofs.KeepLemmas.{keeps_all_trans}
-use Rattle.hol_logic.proofs.StateLemmas.{equates_keep, states_keep, states_as, term_kept, tree_kept, bare_keeps, left_has, right_has, same_swap, and_swap}
+use Rattle.lcf_kernel.proofs.KeptLemmas.{term_kept, tree_kept}
+use Rattle.hol_logic.proofs.StateLemmas.{equates_keep, states_keep, states_as, bare_keeps, left_has, right_has, same_swap, and_swap}
 use Rattle.hol_logic.proofs.HypothesisLemmas.{same_both}
 use Rattle.hol_logic.proofs.BodyLemmas.{congruent_body, congruent_start}
 use Rattle.hol_logic.proofs.congruence.congruent.Goals as goal

@@ -2,7 +2,8 @@ use Rattle.hol_terms.specs.Term.{ty_of}
 use Rattle.hol_terms.specs.TermStore.{term_tree}
 use Rattle.hol_terms.proofs.FormulaLemmas.{has_own}
 use Rattle.lcf_kernel.proofs.KeepLemmas.{keeps_all_trans}
-use Rattle.hol_logic.proofs.StateLemmas.{equates_keep, term_kept, tree_kept, bare_keeps}
+use Rattle.lcf_kernel.proofs.KeptLemmas.{term_kept, tree_kept}
+use Rattle.hol_logic.proofs.StateLemmas.{equates_keep, bare_keeps}
 use Rattle.hol_logic.proofs.BodyLemmas.{lambda_is, in_app_of, in_place, in_closed, opened_function}
 use Rattle.hol_logic.proofs.congruence.of_functions.Goals as goal
 

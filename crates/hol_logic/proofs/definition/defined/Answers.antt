@@ -9,7 +9,8 @@ use Rattle.hol_terms.proofs.SetLemmas.{same_trans, same_sym}
 use Rattle.hol_terms.proofs.FormulaLemmas.{equation_right, implication_is_formula}
 use Rattle.lcf_kernel.specs.KernelState.{concl_of, hyps_of, context_of}
 use Rattle.lcf_kernel.proofs.KeepLemmas.{keeps_all_trans}
-use Rattle.hol_logic.proofs.StateLemmas.{term_kept, tree_kept, passed_shape}
+use Rattle.lcf_kernel.proofs.KeptLemmas.{term_kept, tree_kept}
+use Rattle.hol_logic.proofs.StateLemmas.{passed_shape}
 use Rattle.hol_logic.proofs.DefinitionLemmas.{definition_gives, universal_says, general_of}
 use Rattle.hol_logic.proofs.definition.defined.Goals as goal
 

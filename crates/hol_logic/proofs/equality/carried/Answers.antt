@@ -3,7 +3,8 @@ use Rattle.hol_terms.specs.Term.{ty_of}
 use Rattle.hol_terms.specs.TermStore.{term_tree}
 use Rattle.hol_terms.specs.Substitution.{IsClosed, subst_bound}
 use Rattle.lcf_kernel.proofs.KeepLemmas.{keeps_all_trans}
-use Rattle.hol_logic.proofs.StateLemmas.{equates_keep, term_kept, tree_kept, bare_keeps, left_has, beside_none}
+use Rattle.lcf_kernel.proofs.KeptLemmas.{term_kept, tree_kept}
+use Rattle.hol_logic.proofs.StateLemmas.{equates_keep, bare_keeps, left_has, beside_none}
 use Rattle.hol_logic.proofs.BodyLemmas.{lambda_is, in_equation, in_closed, body_in, start_has, opened_beside}
 use Rattle.hol_logic.proofs.equality.carried.Goals as goal
 

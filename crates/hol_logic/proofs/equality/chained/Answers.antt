@@ -4,7 +4,8 @@ use Rattle.hol_terms.specs.TermStore.{term_tree}
 use Rattle.hol_terms.specs.Constants.{equation}
 use Rattle.lcf_kernel.specs.KernelState.{hyps_of, bare_of}
 use Rattle.lcf_kernel.proofs.KeepLemmas.{keeps_all_trans}
-use Rattle.hol_logic.proofs.StateLemmas.{equates_keep, tree_kept, left_has, right_has, beside_kept, swapped}
+use Rattle.lcf_kernel.proofs.KeptLemmas.{tree_kept}
+use Rattle.hol_logic.proofs.StateLemmas.{equates_keep, left_has, right_has, beside_kept, swapped}
 use Rattle.hol_logic.proofs.BodyLemmas.{lambda_is, in_equation, in_place, in_closed, opened_right}
 use Rattle.hol_logic.proofs.equality.chained.Goals as goal
 

@@ -2,7 +2,8 @@ use Rattle.std.proofs.Common.{◌≡◌, ◌∙◌, sym}
 use Rattle.hol_terms.specs.Term.{ty_of}
 use Rattle.hol_terms.specs.TermStore.{term_tree}
 use Rattle.lcf_kernel.proofs.KeepLemmas.{keeps_all_trans}
-use Rattle.hol_logic.proofs.StateLemmas.{equates_keep, term_kept, tree_kept, bare_keeps, left_has, beside_none}
+use Rattle.lcf_kernel.proofs.KeptLemmas.{term_kept, tree_kept}
+use Rattle.hol_logic.proofs.StateLemmas.{equates_keep, bare_keeps, left_has, beside_none}
 use Rattle.hol_logic.proofs.BodyLemmas.{lambda_is, in_equation, in_place, in_closed, opened_left}
 use Rattle.hol_logic.proofs.equality.reversed.Goals as goal
 
