@@ -211,7 +211,7 @@ fn sides(problem: &Problem) -> Option<(TermId, TermId)>
 }
 
 /// A goal with the declarations of its constants.
-fn declared(alloc: Global, goal: &[u8]) -> Result<Vec<u8>, AllocError> {
+pub fn declared(alloc: Global, goal: &[u8]) -> Result<Vec<u8>, AllocError> {
     let mut text = Vec::new(alloc);
     text.extend_from_slice(
         b"(const p Bool)(const q Bool)(const r Bool)(const x Int)(const y Int)(const z Int)",
@@ -223,7 +223,7 @@ fn declared(alloc: Global, goal: &[u8]) -> Result<Vec<u8>, AllocError> {
 }
 
 /// Whether the two sides of a goal are one term, where it is read.
-fn is_same(alloc: Global, goal: &[u8]) -> Result<Option<bool>, AllocError> {
+pub fn is_same(alloc: Global, goal: &[u8]) -> Result<Option<bool>, AllocError> {
     let mut equation = Vec::new(alloc);
     equation.extend_from_slice(b"(= ")?;
     equation.extend_from_slice(goal)?;

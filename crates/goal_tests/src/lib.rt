@@ -1,6 +1,8 @@
-//! Tests of the reader of goal files, through its public call. They stand in a crate of their own, since a crate with tests is
-//! proved twice.
+//! Tests of goal files, through the public calls of their reader and their printer. They stand in a crate of their own, since a crate with
+//! tests is proved twice.
 #![tactic(auto)]
 
 #[cfg(test)]
 mod goal;
+#[cfg(test)]
+mod print;

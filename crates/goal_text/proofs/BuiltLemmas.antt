@@ -20,7 +20,8 @@ use Rattle.goal_text.specs.Operations.{fits_body, under, under_all}
 use Rattle.goal_text.specs.Terms.{applied, apply_all, takes_all}
 use Rattle.goal_text.specs.Scope.{AreBound, AreTerms, HasTyped, terms_at, binders_in}
 use Rattle.goal_text.proofs.OperationLemmas.{fits_one, number_typed, same_item, terms_from, typed_kept}
-use Rattle.goal_text.proofs.FitLemmas.{same_Ok, fits_under}
+use Rattle.goal_text.proofs.FitLemmas.{fits_under}
+use Rattle.goal_text.proofs.KeptLemmas.{same_Ok}
 
 -- ---- one application
 

@@ -2,7 +2,8 @@
 use Rattle.std.proofs.Common.{◌≡◌, ℕ, [], Ok, Err, true, false, refl, sym, ap, subst, ◌∙◌}
 use Rattle.hol_types.specs.Ty.{BoolTy}
 use Rattle.hol_types.specs.TyEq.{ty_eq}
-use Rattle.hol_terms.specs.Term.{Term, ty_of}
+use Rattle.hol_types.proofs.TyEqLemmas.{ty_eq_sound}
+use Rattle.hol_terms.specs.Term.{Term, Typed, ty_of}
 use Rattle.hol_terms.specs.TermStore.{TermStore, Keeps}
 use Rattle.sexp.specs.Tree.{Tree}
 use Rattle.goal_text.specs.declared.fault.GoalFailure.{GoalFailure}
@@ -14,7 +15,9 @@ use Rattle.goal_text.specs.Read.{Read, Fails, faulty}
 use Rattle.goal_text.specs.Items.{env_behind, formula_of}
 use Rattle.goal_text.specs.ItemsIn.{AreItems, items_in}
 use Rattle.goal_text.specs.Scope.{binders_in, consts_in, env_of, types_in}
+use Rattle.goal_text.specs.Sentences.{IsSentence}
 use Rattle.goal_text.specs.Terms.{term_of}
+use Rattle.goal_text.proofs.ClosedLemmas.{sentence_read}
 use Rattle.goal_text.proofs.ItemLemmas.{items_kept, items_same}
 
 -- what names stand for in the next item
@@ -44,6 +47,9 @@ module _ (made : Made) (at : ℕ) (tree : Tree) (outermost : made.scope.binders 
   pub formula_read : (t : Term) (test : ty_eq BoolTy (ty_of t) ≡ true) → term_of (env_of made.base made.scope) tree ≡ Ok t → formula_of (items_in made) at tree ≡ Ok t
   unfolding formula_of
   formula_read t test h = let one = behind (Ok t) h in rw (one, test) refl
+
+  pub formula_sentence : (t : Term) → Typed t → ty_eq BoolTy (ty_of t) ≡ true → term_of (env_of made.base made.scope) tree ≡ Ok t → IsSentence t
+  formula_sentence t typed test h = sentence_read (env_behind (items_in made)) tree t refl typed (sym (ty_eq_sound BoolTy (ty_of t) test)) (behind (Ok t) h)
 
   pub formula_refused : (t : Term) (test : ty_eq BoolTy (ty_of t) ≡ false) → term_of (env_of made.base made.scope) tree ≡ Ok t → formula_of (items_in made) at tree ≡ faulty NotBool at
   unfolding formula_of

@@ -19,7 +19,7 @@ use Rattle.goal_text.specs.declared.word.Binder.{Binder}
 use Rattle.goal_text.specs.declared.word.Word.TheVariants as words
 use Rattle.goal_text.specs.Scope.{Applies, AreBound, Ascribes, Binds, IsOperation, IsScope, KeepsDeclared, binders_in, bound_by, consts_in, env_of, form_at, one_binder, rest_of, types_in}
 use Rattle.sexp.specs.Forest.{Kept, tree_at, trees_at, trees_within}
-use Rattle.goal_text.proofs.FitLemmas.{same_Ok}
+use Rattle.goal_text.proofs.KeptLemmas.{same_Ok}
 use Rattle.goal_text.proofs.ScopeLemmas.{binders_same, constants_same}
 use Rattle.goal_text.proofs.PartLemmas.{binders_taken}
 

@@ -4,7 +4,8 @@ use Rattle.std.specs.Prelude.{IfSome, option_map}
 use Rattle.std.specs.List.{AllByRecursion}
 use Rattle.hol_types.specs.Ty.{Ty}
 use Rattle.hol_types.specs.TypeStore.{HasType, arity_of, text_of, type_tree}
-use Rattle.hol_terms.specs.TermStore.{TermStore, HasTerm, Keeps, term_tree}
+use Rattle.hol_terms.specs.Term.{Term}
+use Rattle.hol_terms.specs.TermStore.{TermStore, Keeps, term_tree}
 use Rattle.goal_text.specs.declared.items.Items.{Items as Made}
 use Rattle.goal_text.specs.declared.problem.Declared.{Declared}
 use Rattle.goal_text.specs.declared.scope.Constructor.{Constructor}
@@ -13,9 +14,10 @@ use Rattle.goal_text.specs.Items.{with_type}
 use Rattle.goal_text.specs.ItemsIn.{AreItems, HasDeclared, declared_in, items_in, with_constant}
 use Rattle.goal_text.specs.Matching.{is_ground}
 use Rattle.goal_text.specs.Scope.{AreBound, AreConstants, AreConstructors, AreTerms, IsConstant, IsConstructor, IsNameOf, consts_in, terms_at, types_in}
-use Rattle.goal_text.proofs.ScopeLemmas.{constants_same, scope_kept, terms_kept, terms_same}
+use Rattle.goal_text.specs.Sentences.{HasSentence, HaveSentences, IsSentence}
+use Rattle.goal_text.proofs.ScopeLemmas.{constants_same, scope_kept, terms_same}
 
-declared_kept : {s u : TermStore} (ds : List Declared) → Keeps s u → AllByRecursion (λ d. HasDeclared s d) ds → AllByRecursion (λ d. HasDeclared u d) ds
+pub declared_kept : {s u : TermStore} (ds : List Declared) → Keeps s u → AllByRecursion (λ d. HasDeclared s d) ds → AllByRecursion (λ d. HasDeclared u d) ds
 declared_kept [] k all = tt
 declared_kept (d ∷ ds) k all = ((k.names d.name all.0.0, k.types d.ty all.0.1), declared_kept ds k all.1)
 
@@ -23,13 +25,24 @@ pub declared_same : {s u : TermStore} (ds : List Declared) → Keeps s u → All
 declared_same [] k all = refl
 declared_same (d ∷ ds) k all = let e = k.texts d.name all.0.0 in let f = k.type_trees d.ty all.0.1 in let g = declared_same ds k all.1 in rw (e, f, g) refl
 
-goal_kept : (s u : TermStore) (goal : Option ℕ) → Keeps s u → IfSome goal (λ t. HasTerm s t) → IfSome goal (λ t. HasTerm u t)
-goal_kept s u None k h = tt
-goal_kept s u (Some t) k h = k.terms t h
+pub sentence_kept : (s u : TermStore) (t : ℕ) → Keeps s u → HasSentence s t → HasSentence u t
+sentence_kept s u t k h = record { there = k.terms t h.there; sentence = let P : Term → Type 0 = λ x. IsSentence x in subst P (sym (k.trees t h.there)) h.sentence }
 
-goal_same : (s u : TermStore) (goal : Option ℕ) → Keeps s u → IfSome goal (λ t. HasTerm s t) → option_map (λ t. term_tree u t) goal ≡ option_map (λ t. term_tree s t) goal
+pub sentences_kept : (s u : TermStore) (ts : List ℕ) → Keeps s u → HaveSentences s ts → HaveSentences u ts
+sentences_kept s u [] k all = tt
+sentences_kept s u (t ∷ ts) k all = (sentence_kept s u t k all.0, sentences_kept s u ts k all.1)
+
+sentence_terms : (s : TermStore) (ts : List ℕ) → HaveSentences s ts → AreTerms s ts
+sentence_terms s [] all = tt
+sentence_terms s (t ∷ ts) all = (all.0.there, sentence_terms s ts all.1)
+
+goal_kept : (s u : TermStore) (goal : Option ℕ) → Keeps s u → IfSome goal (λ t. HasSentence s t) → IfSome goal (λ t. HasSentence u t)
+goal_kept s u None k h = tt
+goal_kept s u (Some t) k h = sentence_kept s u t k h
+
+goal_same : (s u : TermStore) (goal : Option ℕ) → Keeps s u → IfSome goal (λ t. HasSentence s t) → option_map (λ t. term_tree u t) goal ≡ option_map (λ t. term_tree s t) goal
 goal_same s u None k h = refl
-goal_same s u (Some t) k h = ap Some (k.trees t h)
+goal_same s u (Some t) k h = ap Some (k.trees t h.there)
 
 module _ (made : Made) (u : TermStore) (k : Keeps made.base u) (is : AreItems made) where
   -- they are the same in a store that has gone on
@@ -39,14 +52,14 @@ module _ (made : Made) (u : TermStore) (k : Keeps made.base u) (is : AreItems ma
     outermost = is.outermost;
     consts = declared_same made.consts.items k is.declared ∙ is.consts ∙ sym (constants_same made.scope.consts k is.scope.consts);
     declared = declared_kept made.consts.items k is.declared;
-    facts = terms_kept made.facts.items k is.facts;
+    facts = sentences_kept made.base u made.facts.items k is.facts;
     goal = goal_kept made.base u made.goal k is.goal;
   }
 
   pub items_same : items_in (record made { base = u }) ≡ items_in made
   items_same =
       let consts = constants_same made.scope.consts k is.scope.consts in
-      let facts = terms_same made.facts.items k is.facts in
+      let facts = terms_same made.facts.items k (sentence_terms made.base made.facts.items is.facts) in
       let goal = goal_same made.base u made.goal k is.goal in
       rw (consts, facts, goal) refl
 
@@ -75,10 +88,6 @@ declared_more s (e ∷ ds) d = ap (λ l. (text_of s.types e.name, type_tree s.ty
 pub has_declared_more : (s : TermStore) (ds : List Declared) (d : Declared) → AllByRecursion (λ e. HasDeclared s e) ds → HasDeclared s d → AllByRecursion (λ e. HasDeclared s e) (ds ++ d ∷ [])
 has_declared_more s [] d all is = (is, tt)
 has_declared_more s (e ∷ ds) d all is = (all.0, has_declared_more s ds d all.1 is)
-
-pub terms_more : (s : TermStore) (ts : List ℕ) (t : ℕ) → AreTerms s ts → HasTerm s t → AreTerms s (ts ++ t ∷ [])
-terms_more s [] t all is = (is, tt)
-terms_more s (u ∷ ts) t all is = (all.0, terms_more s ts t all.1 is)
 
 -- ---- one item more
 
@@ -130,8 +139,8 @@ module _ (old new : Made) (name : List ℕ) (n ty : ℕ) (monomorphic : Bool) (k
         outermost = binders ∙ is.outermost;
         consts = listed;
         declared = subst (λ l. AllByRecursion (λ d. HasDeclared new.base d) l) (sym list) (has_declared_more new.base old.consts.items (record { name = n; ty = ty }) (declared_kept old.consts.items k is.declared) (text.there, k.types ty there));
-        facts = subst (λ l. AreTerms new.base l) (sym facts) (terms_kept old.facts.items k is.facts);
-        goal = subst (λ g. IfSome g (λ t. HasTerm new.base t)) (sym goal) (goal_kept old.base new.base old.goal k is.goal);
+        facts = subst (λ l. HaveSentences new.base l) (sym facts) (sentences_kept old.base new.base old.facts.items k is.facts);
+        goal = subst (λ g. IfSome g (λ t. HasSentence new.base t)) (sym goal) (goal_kept old.base new.base old.goal k is.goal);
       }
 
   pub constant_said : items_in new ≡ with_constant (items_in old) name (type_tree old.base.types ty)
@@ -141,6 +150,6 @@ module _ (old new : Made) (name : List ℕ) (n ty : ℕ) (monomorphic : Bool) (k
       let said : consts_in new.base new.scope.consts ≡ consts_in old.base old.scope.consts ++ (name, type_tree old.base.types ty) ∷ [] =
       ap (λ l. consts_in new.base l) consts ∙ consts_more new.base old.scope.consts name (record { name = n; ty = ty; monomorphic = monomorphic }) ∙ ap (λ l. one l (type_tree new.base.types ty)) (constants_same old.scope.consts k is.scope.consts)
       ∙ ap (one (consts_in old.base old.scope.consts)) (k.type_trees ty there) in
-      let terms : terms_at new.base new.facts.items ≡ terms_at old.base old.facts.items = ap (λ l. terms_at new.base l) facts ∙ terms_same old.facts.items k is.facts in
+      let terms : terms_at new.base new.facts.items ≡ terms_at old.base old.facts.items = ap (λ l. terms_at new.base l) facts ∙ terms_same old.facts.items k (sentence_terms old.base old.facts.items is.facts) in
       let one_goal : option_map (λ t. term_tree new.base t) new.goal ≡ option_map (λ t. term_tree old.base t) old.goal = ap (λ g. option_map (λ t. term_tree new.base t) g) goal ∙ goal_same old.base new.base old.goal k is.goal in
       λ i. record { types = names i; consts = said i; facts = terms i; goal = one_goal i }

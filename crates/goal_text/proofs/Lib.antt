@@ -7,7 +7,9 @@ pub mod FoundLemmas
 pub mod TypeLemmas
 pub mod GoalLemmas
 pub mod MatchLemmas
+pub mod KeptLemmas
 pub mod FitLemmas
+pub mod ClosedLemmas
 pub mod PartLemmas
 pub mod FormLemmas
 pub mod BuiltLemmas

@@ -2,7 +2,7 @@
 use Rattle.std.proofs.Common.{◌≡◌, ℕ, List, Option, Some, None, Ok, Err, length, refl, sym, ap, ap₂, subst, ◌∙◌}
 use Rattle.std.specs.Prelude.{IfSome, option_map}
 use Rattle.std.specs.List.{AllByRecursion}
-use Rattle.hol_terms.specs.TermStore.{HasTerm, term_tree}
+use Rattle.hol_terms.specs.TermStore.{term_tree}
 use Rattle.sexp.specs.Forest.{Kept, trees_at}
 use Rattle.goal_text.specs.declared.fault.GoalFailure.{GoalFailure}
 use Rattle.goal_text.specs.declared.fault.GoalFailure.TheVariants as failures
@@ -14,7 +14,8 @@ use Rattle.goal_text.specs.Read.{Read, Fails}
 use Rattle.goal_text.specs.Items.{Items, no_items, items_of}
 use Rattle.goal_text.specs.GoalRead.{GoalProblem, problem_by}
 use Rattle.goal_text.specs.ItemsIn.{AreItems, HasDeclared, IsFinished, IsProblem, declared_in, items_in}
-use Rattle.goal_text.specs.Scope.{AreTerms, terms_at}
+use Rattle.goal_text.specs.Scope.{terms_at}
+use Rattle.goal_text.specs.Sentences.{HasSentence, HaveSentences}
 use Rattle.goal_text.proofs.FoundLemmas.{constructor_said}
 
 module _ (made : Made) (n : ℕ) (is : AreItems made) (consts : List Declared) (facts : List ℕ) (t : ℕ) (listed : consts ≡ made.consts.items) (given : facts ≡ made.facts.items) (goal : made.goal ≡ Some t) where
@@ -37,8 +38,8 @@ module _ (made : Made) (n : ℕ) (is : AreItems made) (consts : List Declared) (
   pub is_problem : IsProblem problem
   is_problem = record {
     declared = let P : List Declared → Type 0 = λ l. AllByRecursion (λ d. HasDeclared made.base d) l in subst P (sym listed) is.declared;
-    facts = let P : List ℕ → Type 0 = λ l. AreTerms made.base l in subst P (sym given) is.facts;
-    goal = let P : Option ℕ → Type 0 = λ g. IfSome g (λ u. HasTerm made.base u) in subst P goal is.goal;
+    facts = let P : List ℕ → Type 0 = λ l. HaveSentences made.base l in subst P (sym given) is.facts;
+    goal = let P : Option ℕ → Type 0 = λ g. IfSome g (λ u. HasSentence made.base u) in subst P goal is.goal;
   }
 
 pub without_goal : (made : Made) (n : ℕ) → made.goal ≡ None → IsFinished made n (Err (failures.Refused (record { at = n; kind = NoGoal })))

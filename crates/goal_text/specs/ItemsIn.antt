@@ -5,7 +5,7 @@ use Rattle.std.specs.Map.{lookup}
 use Rattle.std.specs.List.{AllByRecursion}
 use Rattle.hol_types.specs.Ty.{Ty}
 use Rattle.hol_types.specs.TypeStore.{HasName, HasType, arity_of, text_of, type_tree}
-use Rattle.hol_terms.specs.TermStore.{TermStore, HasTerm, term_tree}
+use Rattle.hol_terms.specs.TermStore.{TermStore, term_tree}
 use Rattle.goal_text.specs.declared.fault.GoalFailure.{GoalFailure}
 use Rattle.goal_text.specs.declared.fault.GoalFailure.TheVariants.{Refused, Memory}
 use Rattle.goal_text.specs.declared.items.Items.{Items as Made}
@@ -17,7 +17,8 @@ use Rattle.goal_text.specs.GoalRead.{GoalProblem, GoalRead, FirstFault, lexical_
 use Rattle.goal_text.specs.Read.{Fails}
 use Rattle.sexp.specs.declared.token.SexpFault.{SexpFault}
 use Rattle.sexp.specs.declared.token.SexpFault.TheVariants as lexical
-use Rattle.goal_text.specs.Scope.{AreTerms, IsScope, consts_in, terms_at, types_in}
+use Rattle.goal_text.specs.Scope.{IsScope, consts_in, terms_at, types_in}
+use Rattle.goal_text.specs.Sentences.{HasSentence, HaveSentences}
 
 -- the items so far
 abbrev pub items_in : Made → Items
@@ -36,20 +37,20 @@ declared_in s consts = map (λ d. (text_of s.types d.name, type_tree s.types d.t
 abbrev pub HasDeclared : TermStore → Declared → Type 0
 HasDeclared s d = HasName s.types d.name × HasType s.types d.ty
 
--- the numbers are those of the items' names, types and terms
+-- the numbers are those of the items' names, types and sentences
 pub record AreItems (made : Made) : Type 0 where
   pub scope : IsScope made.base made.scope
   pub outermost : made.scope.binders ≡ []
   pub consts : declared_in made.base made.consts.items ≡ consts_in made.base made.scope.consts
   pub declared : AllByRecursion (HasDeclared made.base) made.consts.items
-  pub facts : AreTerms made.base made.facts.items
-  pub goal : IfSome made.goal (HasTerm made.base)
+  pub facts : HaveSentences made.base made.facts.items
+  pub goal : IfSome made.goal (HasSentence made.base)
 
--- the numbers of a problem are those of declarations and terms
+-- the numbers of a problem are those of declarations and sentences
 pub record IsProblem (problem : Problem) : Type 0 where
   pub declared : AllByRecursion (HasDeclared problem.base) problem.consts
-  pub facts : AreTerms problem.base problem.facts
-  pub goal : HasTerm problem.base problem.goal
+  pub facts : HaveSentences problem.base problem.facts
+  pub goal : HasSentence problem.base problem.goal
 
 -- the problem says this: its constants, facts and goal, and its store has the type constructors
 pub record Says (problem : Problem) (said : GoalProblem) : Type 0 where

@@ -8,7 +8,9 @@ pub mod Forms
 pub mod Terms
 pub mod Items
 pub mod GoalRead
+pub mod KindNames
 pub mod Scope
 pub mod Hiding
 pub mod Bounds
+pub mod Sentences
 pub mod ItemsIn

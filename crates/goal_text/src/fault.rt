@@ -1,6 +1,7 @@
 //! Why a goal file is refused.
 ghost use Rattle.std.specs.Prelude.{◌≡◌, Err};
 ghost use Rattle.goal_text.specs.declared.fault.GoalFailure.TheVariants.{Memory as NoMemory};
+ghost use Rattle.goal_text.specs.KindNames.{kind_name};
 
 use std::alloc::{AllocError, AllocFailed};
 
@@ -35,6 +36,30 @@ pub enum GoalKind {
     TwoGoals,
     /// There is no goal.
     NoGoal,
+}
+
+impl GoalKind {
+    /// The word by which an output line tells the kind.
+    pub fn name(self) -> &'static str
+        ensures { result.now ≡ kind_name self }
+    {
+        match self {
+            GoalKind::TooLong => "TooLong",
+            GoalKind::BadByte => "BadByte",
+            GoalKind::Unopened => "Unopened",
+            GoalKind::TooDeep => "TooDeep",
+            GoalKind::Unclosed => "Unclosed",
+            GoalKind::Syntax => "Syntax",
+            GoalKind::Number => "Number",
+            GoalKind::UnknownName => "UnknownName",
+            GoalKind::DeclaredTwice => "DeclaredTwice",
+            GoalKind::IllTyped => "IllTyped",
+            GoalKind::FreeTypeVariable => "FreeTypeVariable",
+            GoalKind::NotBool => "NotBool",
+            GoalKind::TwoGoals => "TwoGoals",
+            GoalKind::NoGoal => "NoGoal",
+        }
+    }
 }
 
 /// The first fault of a goal file: the byte at which it stands, counted from 0, and what is wrong.

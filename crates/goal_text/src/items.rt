@@ -2,12 +2,13 @@
 ghost use Rattle.std.specs.Prelude.{◌≡◌, ◌<◌, None, bytes_eq, IfOk, OnOk, Ok};
 ghost use Rattle.std.specs.Map.{lookup};
 ghost use Rattle.hol_types.specs.TypeStore.{HasType, type_tree};
-ghost use Rattle.hol_terms.specs.TermStore.{HasTerm, term_tree};
+ghost use Rattle.hol_terms.specs.TermStore.{term_tree};
 ghost use Rattle.sexp.specs.Forest.{tree_at, trees_at, HasTree, IsRun};
 ghost use Rattle.goal_text.specs.Items as forms;
 ghost use Rattle.goal_text.specs.Items.{with_type};
 ghost use Rattle.goal_text.specs.ItemsIn.{AreItems, items_in, with_constant};
 ghost use Rattle.goal_text.specs.Read.{Gives};
+ghost use Rattle.goal_text.specs.Sentences.{HasSentence};
 
 use crate::fault::{GoalFailure, GoalKind, refuse};
 use crate::lexicon::{is_number, value};
@@ -156,11 +157,13 @@ fn formula_at(items: &mut Items, forest: &Forest, at: u32, i: u32) -> Result<Ter
     requires items { AreItems items.old }
     requires tree { HasTree forest.now i }
     ensures read { Gives (term_tree items.new.base) result (forms.formula_of (items_in items.old) at (tree_at forest.now i)) }
-    ensures there { IfOk result (HasTerm items.new.base) }
+    ensures sentence { IfOk result (HasSentence items.new.base) }
     ensures items { OnOk result (AreItems items.new) }
     ensures same { OnOk result (items_in items.new ≡ items_in items.old) }
 {
     let t = term_at(&mut items.base, &mut items.scope, forest, i)?;
+    // It is typed, as each term of a store is.
+    let _ty = items.base.ty(t);
     if is_bool(&items.base, t) {
         Ok(t)
     } else {

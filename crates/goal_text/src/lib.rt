@@ -27,5 +27,6 @@ mod types;
 mod word;
 
 pub use fault::{GoalFailure, GoalFault, GoalKind};
+pub use matching::is_ground;
 pub use problem::{Declared, Problem};
 pub use read::read_goal;

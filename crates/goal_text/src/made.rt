@@ -7,7 +7,7 @@ ghost use Rattle.hol_terms.specs.TermStore.{Keeps, Applies, HasParts, HasTerm, t
 ghost use Rattle.goal_text.specs.Read.{Gives};
 
 use crate::fault::GoalFailure;
-use hol_terms::{Base, Node, TermFault, TermId, Terms};
+use hol_terms::{Base, Node, TermId, Terms};
 use hol_types::{NameId, TypeFault, TypeId, TypeNode};
 
 /// The number of a typed term.
@@ -18,11 +18,8 @@ pub fn typed(base: &mut Base, node: Node) -> Result<TermId, GoalFailure>
     ensures there { IfOk result (HasTerm base.new) }
     ensures keeps { Keeps base.old base.new }
 {
-    match base.intern(node) {
-        Ok(t) => Ok(t),
-        Err(TermFault::Memory) => Err(GoalFailure::Memory),
-        Err(TermFault::Ill) => unreachable!(),
-    }
+    let t = base.make(node)?;
+    Ok(t)
 }
 
 /// The number of a type whose constructor has its arguments.

@@ -3,7 +3,7 @@ use Rattle.hol_terms.specs.Term.{ty_of}
 use Rattle.hol_terms.specs.TermStore.{term_tree}
 use Rattle.goal_text.specs.Operations as operations
 use Rattle.goal_text.proofs.BuiltLemmas.{predicate_typed, quantifier_applies}
-use Rattle.goal_text.proofs.FitLemmas.{same_Ok}
+use Rattle.goal_text.proofs.KeptLemmas.{same_Ok}
 use Rattle.goal_text.proofs.built.under.Goals as goal
 
 pub quantifier-requires : goal.quantifier-requires

@@ -7,7 +7,7 @@ use Rattle.goal_text.specs.Bounds.{FitsAll}
 use Rattle.goal_text.specs.Operations as operations
 use Rattle.goal_text.specs.Scope.{binders_in}
 use Rattle.goal_text.proofs.BuiltLemmas.{body_fits, innermost_fits, others_fit, nothing_left, others_there, outer_left, under_next, variable_there}
-use Rattle.goal_text.proofs.FitLemmas.{same_Ok}
+use Rattle.goal_text.proofs.KeptLemmas.{same_Ok}
 use Rattle.goal_text.proofs.built.under_all.Goals as goal
 
 pub under-requires-clause-ty : goal.under-requires-clause-ty

@@ -1,7 +1,7 @@
 use Rattle.std.proofs.Common.{◌∙◌, sym}
 use Rattle.std.proofs.lemmas.Result.{err_from_is_err_and}
 use Rattle.sexp.specs.Forest.{tree_at}
-use Rattle.goal_text.proofs.FactLemmas.{formula_fails, formula_read, formula_refused, items_as_before, items_on}
+use Rattle.goal_text.proofs.FactLemmas.{formula_fails, formula_read, formula_refused, formula_sentence, items_as_before, items_on}
 use Rattle.goal_text.proofs.items.formula_at.Goals as goal
 
 pub returns-in_err-t-clause-read : goal.returns-in_err-t-clause-read
@@ -11,6 +11,13 @@ returns-in_err-t-clause-read c =
 
 pub returns-then-is_bool-clause-read : goal.returns-then-is_bool-clause-read
 returns-then-is_bool-clause-read c = formula_read c.args.items.now c.args.at (tree_at c.args.forest.now c.args.i) c.requires.items.outermost _ (sym c.is_bool.ensures ∙ c.if-is_bool.true) c.in_ok-t.ensures.read
+
+pub returns-then-is_bool-clause-sentence : goal.returns-then-is_bool-clause-sentence
+returns-then-is_bool-clause-sentence c =
+    record {
+      there = c.in_ok-t.ensures.there;
+      sentence = formula_sentence c.args.items.now c.args.at (tree_at c.args.forest.now c.args.i) c.requires.items.outermost _ c.ty-ty.ensures.typed (sym c.is_bool.ensures ∙ c.if-is_bool.true) c.in_ok-t.ensures.read;
+    }
 
 pub returns-then-is_bool-clause-items : goal.returns-then-is_bool-clause-items
 returns-then-is_bool-clause-items c = items_on c.args.items.now c.term_at.new.base c.term_at.new.scope c.in_ok-t.ensures.keeps c.in_ok-t.ensures.scope c.requires.items

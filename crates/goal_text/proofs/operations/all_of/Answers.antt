@@ -3,7 +3,7 @@ use Rattle.hol_types.specs.Ty.{BoolTy}
 use Rattle.hol_terms.specs.Constants as hol
 use Rattle.hol_terms.specs.Term.{ConstTm}
 use Rattle.goal_text.specs.Operations as operations
-use Rattle.goal_text.proofs.FitLemmas.{same_Ok}
+use Rattle.goal_text.proofs.KeptLemmas.{same_Ok}
 use Rattle.goal_text.proofs.OperationLemmas.{all_of_some, front_same, made_same, rest_same, typed_terms}
 use Rattle.goal_text.proofs.operations.all_of.Goals as goal
 

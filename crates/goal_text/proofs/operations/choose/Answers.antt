@@ -2,7 +2,7 @@ use Rattle.std.proofs.Common.{sym}
 use Rattle.hol_types.specs.Ty.{BoolTy, FunTy}
 use Rattle.hol_types.specs.TypeStore.{type_tree}
 use Rattle.hol_terms.specs.Constants as hol
-use Rattle.goal_text.proofs.FitLemmas.{same_Ok}
+use Rattle.goal_text.proofs.KeptLemmas.{same_Ok}
 use Rattle.goal_text.proofs.OperationLemmas.{fits_one, fits_two, number_typed, two_typed, typed_kept}
 use Rattle.goal_text.proofs.operations.choose.Goals as goal
 

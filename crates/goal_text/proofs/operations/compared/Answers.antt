@@ -1,7 +1,7 @@
 use Rattle.std.proofs.Common.{ap, Ok}
 use Rattle.hol_terms.specs.Constants as hol
 use Rattle.goal_text.specs.Operations as operations
-use Rattle.goal_text.proofs.FitLemmas.{same_Ok}
+use Rattle.goal_text.proofs.KeptLemmas.{same_Ok}
 use Rattle.goal_text.proofs.OperationLemmas.{front_same, made_same, rest_same, typed_terms}
 use Rattle.goal_text.proofs.operations.compared.Goals as goal
 

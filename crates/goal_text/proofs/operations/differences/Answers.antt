@@ -3,7 +3,7 @@ use Rattle.hol_terms.specs.Term.{ty_of}
 use Rattle.hol_terms.specs.TermStore.{term_tree}
 use Rattle.hol_terms.proofs.KeepsLemmas.{keeps_trans}
 use Rattle.goal_text.specs.Scope.{AreTyped}
-use Rattle.goal_text.proofs.FitLemmas.{same_Ok}
+use Rattle.goal_text.proofs.KeptLemmas.{same_Ok}
 use Rattle.goal_text.proofs.OperationLemmas.{all_typed_kept, differences_next, typed_at, typed_kept, typed_terms}
 use Rattle.goal_text.proofs.operations.differences.Goals as goal
 

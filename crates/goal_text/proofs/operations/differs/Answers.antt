@@ -5,7 +5,7 @@ use Rattle.hol_terms.specs.Term.{ty_of}
 use Rattle.hol_terms.specs.TermStore.{term_tree}
 use Rattle.hol_terms.proofs.KeepsLemmas.{keeps_trans}
 use Rattle.goal_text.specs.Scope.{HasTyped}
-use Rattle.goal_text.proofs.FitLemmas.{same_Ok}
+use Rattle.goal_text.proofs.KeptLemmas.{same_Ok}
 use Rattle.goal_text.proofs.OperationLemmas.{all_typed_kept, all_typed_pushed, differs_next, item_same, part_typed, typed_terms}
 use Rattle.goal_text.proofs.operations.differs.Goals as goal
 

@@ -1,7 +1,7 @@
 use Rattle.std.proofs.Common.{◌∙◌, ap, sym, Ok}
 use Rattle.goal_text.specs.Operations as operations
 use Rattle.goal_text.specs.Scope.{terms_at}
-use Rattle.goal_text.proofs.FitLemmas.{same_Ok}
+use Rattle.goal_text.proofs.KeptLemmas.{same_Ok}
 use Rattle.goal_text.proofs.OperationLemmas.{typed_terms}
 use Rattle.goal_text.proofs.ScopeLemmas.{terms_same}
 use Rattle.goal_text.proofs.operations.distinct.Goals as goal

@@ -4,7 +4,7 @@ use Rattle.hol_terms.specs.Constants as hol
 use Rattle.hol_terms.specs.Term.{ty_of}
 use Rattle.hol_terms.specs.TermStore.{term_tree}
 use Rattle.goal_text.specs.Operations as operations
-use Rattle.goal_text.proofs.FitLemmas.{same_Ok}
+use Rattle.goal_text.proofs.KeptLemmas.{same_Ok}
 use Rattle.goal_text.proofs.OperationLemmas.{front_same, item_at, made_same, rest_same, typed_terms}
 use Rattle.goal_text.proofs.operations.equal.Goals as goal
 

@@ -1,7 +1,7 @@
 use Rattle.std.proofs.Common.{◌≡◌, ◌+◌, ◌-◌, ◌<◌, length, sym, arith}
 use Rattle.hol_types.specs.Ty.{BoolTy}
 use Rattle.hol_terms.proofs.KeepsLemmas.{keeps_trans}
-use Rattle.goal_text.proofs.FitLemmas.{same_Ok}
+use Rattle.goal_text.proofs.KeptLemmas.{same_Ok}
 use Rattle.goal_text.proofs.OperationLemmas.{all_typed_kept, all_typed_pushed, fits_two, neighbours_next, part_typed, two_typed, typed_kept, typed_terms}
 use Rattle.goal_text.proofs.operations.neighbours.Goals as goal
 

@@ -1,7 +1,7 @@
 use Rattle.std.proofs.Common.{sym, arith}
 use Rattle.hol_types.specs.Ty.{IntTy}
 use Rattle.hol_terms.proofs.KeepsLemmas.{keeps_trans}
-use Rattle.goal_text.proofs.FitLemmas.{same_Ok}
+use Rattle.goal_text.proofs.KeptLemmas.{same_Ok}
 use Rattle.goal_text.proofs.OperationLemmas.{left_next, part_typed, two_typed, typed_kept, typed_terms}
 use Rattle.goal_text.proofs.operations.to_the_left.Goals as goal
 

@@ -1,0 +1,5 @@
+pub mod KindLemmas
+pub mod PutLemmas
+pub mod NodeLemmas
+pub mod LoopLemmas
+pub mod ConstantLemmas
