@@ -4,7 +4,7 @@ ghost use Rattle.hol_terms.specs.Derivable.{Derivable};
 ghost use Rattle.proof_plan.specs.PlanValue.{tree_in};
 ghost use Rattle.proof_plan.specs.Claims.{Claim, Facts};
 ghost use Rattle.discharge.specs.Negation.{AssertsNegation};
-ghost use Rattle.discharge.specs.ProvedValue.{HasFormula, fact_trees, goal_tree};
+ghost use Rattle.discharge.specs.ProvedValue.{HasFormula, IsProved, fact_trees, goal_tree};
 
 use hol_terms::{Frozen, TermId};
 use hol_types::List;
@@ -52,6 +52,16 @@ impl Proved {
         ensures derivable { Derivable (fact_trees self.now) [] (goal_tree self.now) }
     {
         self.goal
+    }
+
+    /// The terms, the facts and the goal.
+    pub fn into_parts(self) -> (Frozen, List<TermId>, TermId)
+        ensures terms { result.0 ≡ self.store }
+        ensures facts { result.1 ≡ self.facts }
+        ensures goal { result.2 ≡ self.goal }
+        ensures proved { IsProved self }
+    {
+        (self.base, self.facts, self.goal)
     }
 }
 

@@ -15,7 +15,7 @@ use Rattle.first_form.specs.ProofForm.{Proof, proof_form}
 use Rattle.first_form.specs.ProofNodes.{ProofNode, nodes_of}
 use Rattle.first_form.specs.ProofPlan.{plan_nodes_in}
 use Rattle.first_form.specs.Steps.{node_in, nodes_in}
-use Rattle.smt_cli.specs.Answers.{Answer, ProvedGoal, FailedAt, replayed, replay_answer, proof_answer, problem_answer, verdict, before, claim_at, no_node}
+use Rattle.smt_cli.specs.Answers.{Answer, ProofRefused, ProvedGoal, FailedAt, replayed, replay_answer, proof_answer, problem_answer, verdict, before, claim_at, no_node}
 use Rattle.smt_cli.specs.declared.line.Line.{Line}
 use Rattle.smt_cli.specs.Follows.{IsProblemStatus}
 use Rattle.smt_cli.specs.Writing.{IsLineOf}
@@ -120,6 +120,11 @@ proves P (Err e) h = tt
 answered_by : (o : Option Proof) (nodes : List ProofNode) (goal : Term) → option_map nodes_of o ≡ Some nodes → proof_answer o goal ≡ replay_answer nodes goal
 answered_by None nodes goal e = absurd (none-some nodes e)
 answered_by (Some proof) nodes goal e = let same : nodes_of proof ≡ nodes = same_Some (nodes_of proof) nodes e in ap (λ ns. replay_answer ns goal) same
+
+-- where there is no proof
+pub refused_by : (o : Option Proof) (goal : Term) → option_map nodes_of o ≡ None → ProofRefused ≡ proof_answer o goal
+refused_by None goal e = refl
+refused_by (Some proof) goal e = absurd (none-some (nodes_of proof) (sym e))
 
 -- to a proof file whose rule applications are a plan's
 pub answer_is : (problem : FirstProblem) (text all : List ℕ) (p : PlanValue) → proof_form problem text ≡ proof_form problem all → option_map nodes_of (proof_form problem text) ≡ Some (plan_nodes_in p) → tree_in p p.parts.goal ≡ problem.goal
