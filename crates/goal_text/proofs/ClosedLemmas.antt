@@ -1,9 +1,9 @@
 -- What is read has no free variables, and no loose Bounds but those of the binders around it.
-use Rattle.std.proofs.Common.{◌≡◌, ℕ, ◌+◌, ◌<◌, List, [], ◌∷◌, ◌++◌, Some, Ok, Bool, true, false, length, refl, sym, ap, subst, ◌∙◌, arith}
+use Rattle.std.proofs.Common.{◌≡◌, ℕ, ◌+◌, ◌<◌, List, [], ◌∷◌, Some, Ok, Bool, true, false, length, refl, sym, ap, subst, ◌∙◌, arith}
 use Rattle.std.specs.Prelude.{bytes_eq}
 use Rattle.std.proofs.lemmas.Option.{none-some, same_Some}
 use Rattle.hol_types.specs.Ty.{Ty, BoolTy}
-use Rattle.hol_terms.specs.Term.{Term, Typed, BoundTm, ConstTm, NumTm, AppTm, LamTm, ty_of}
+use Rattle.hol_terms.specs.Term.{Term, Typed, AppTm, ty_of}
 use Rattle.hol_terms.specs.Substitution.{LooseBelow, free_variables}
 use Rattle.sexp.specs.Tree.{Tree}
 use Rattle.goal_text.specs.Names.{Env, Binders, bound_to, one_further}

@@ -23,13 +23,22 @@ pub struct Bound {
 }
 
 /// The variables that are bound at a place of the text. The innermost of a name is found by the name's hash.
-#[derive(Drop)]
 pub struct Binders {
     alloc: Global,
     /// The outermost first.
     stack: Vec<Bound>,
     /// The innermost variable of each name.
     newest: Names<Option<Spot>>,
+}
+
+impl Drop for Binders {
+    fn drop(self) {
+        let Binders {
+            alloc: _,
+            stack: _,
+            newest: _,
+        } = self;
+    }
 }
 
 impl Model for Binders {

@@ -7,9 +7,14 @@ use std::alloc::{AllocError, Global};
 use std::marker::Model;
 
 /// Names with what they stand for, in the order in which they were declared. A name is found by its hash.
-#[derive(Drop)]
 pub struct Names<V> {
     values: IndexMap<Vec<u8>, V>,
+}
+
+impl<V: Drop> Drop for Names<V> {
+    fn drop(self) {
+        let Names { values: _ } = self;
+    }
 }
 
 impl<V> Model for Names<V> {

@@ -28,11 +28,20 @@ pub struct Constant {
 }
 
 /// The declared names and the bound variables.
-#[derive(Drop)]
 pub struct Scope {
     pub types: Names<Constructor>,
     pub consts: Names<Constant>,
     pub binders: Binders,
+}
+
+impl Drop for Scope {
+    fn drop(self) {
+        let Scope {
+            types: _,
+            consts: _,
+            binders: _,
+        } = self;
+    }
 }
 
 impl Scope {

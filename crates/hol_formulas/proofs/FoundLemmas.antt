@@ -10,7 +10,7 @@ use Rattle.std.proofs.lemmas.Grind.{get_or_default_zero}
 use Rattle.hol_types.specs.Ty.{Ty}
 use Rattle.hol_types.proofs.TypeLemmas.{eqb_sound}
 use Rattle.hol_terms.specs.declared.node.FreeKind.{FreeKind}
-use Rattle.hol_terms.specs.Term.{Term, FreeTm, BoundTm, ConstTm, NumTm, AppTm, LamTm}
+use Rattle.hol_terms.specs.Term.{Term, FreeTm, AppTm, LamTm}
 use Rattle.hol_terms.specs.TermStore.{TermStore, HasTerm, Keeps, TermsApart, term_tree}
 use Rattle.hol_terms.specs.Substitution.{free_variables}
 use Rattle.hol_terms.specs.Deep.{IsPartOf}
@@ -19,7 +19,7 @@ use Rattle.hol_terms.proofs.DeepLemmas.{free_in_part}
 use Rattle.hol_terms.proofs.SetLemmas.{in_append_left, in_append_right, in_append_either}
 use Rattle.hol_formulas.specs.Formulas.{trees, HasFormulas}
 use Rattle.hol_formulas.specs.Found.{variables_in, AreAmong, AreVariables, Finds, AllFound, Adds}
-use Rattle.hol_formulas.proofs.ListLemmas.{In-from_Contains, Contains-from_In}
+use Rattle.hol_formulas.proofs.ListLemmas.{Contains-from_In}
 use Rattle.hol_terms.proofs.QuantifierRules.{free_in_none, free_in_each}
 use Rattle.hol_formulas.proofs.TreesLemmas.{in_trees, from_trees, trees_within}
 use Rattle.hol_formulas.proofs.GrowthLemmas.{trees_keep}

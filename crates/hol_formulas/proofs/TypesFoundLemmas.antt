@@ -8,7 +8,7 @@ use Rattle.std.proofs.Math.Dec.{eqb}
 use Rattle.std.proofs.lemmas.List.{append-nil}
 use Rattle.std.proofs.lemmas.Grind.{get_or_default_zero}
 use Rattle.hol_types.specs.Ty.{Ty, VarTy}
-use Rattle.hol_types.specs.TypeStore.{TypeStore, HasType, type_tree, trees_of, trees_at}
+use Rattle.hol_types.specs.TypeStore.{TypeStore, HasType, type_tree, trees_of}
 use Rattle.hol_types.specs.TypeSubst.{variables_of, variables_of_all}
 use Rattle.hol_types.proofs.TypeLemmas.{eqb_sound}
 use Rattle.hol_terms.specs.Term.{Term}

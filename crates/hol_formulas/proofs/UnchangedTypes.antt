@@ -1,11 +1,11 @@
 -- Type variables that a substitution of types leaves as they are.
-use Rattle.std.proofs.Common.{◌≡◌, ◌∙◌, ◌<◌, ◌+◌, ◌++◌, ◌∷◌, [], ap, ap₂, sym, subst, ℕ, List, length, get_or, below_more, ⊎_elim, inl, inr}
+use Rattle.std.proofs.Common.{◌≡◌, ◌∙◌, ◌<◌, ◌+◌, ◌++◌, ◌∷◌, [], ap, ap₂, sym, subst, ℕ, List, length, get_or, below_more, ⊎_elim}
 use Rattle.std.proofs.lemmas.Grind.{get_or_default_zero}
-use Rattle.hol_types.specs.Ty.{Ty, VarTy}
+use Rattle.hol_types.specs.Ty.{Ty}
 use Rattle.hol_types.specs.TypeStore.{TypeStore, HasType, TreesApart, type_tree}
 use Rattle.hol_types.specs.TypeSubst.{TypeSubst, HasSubst, subst_tree, instance_of}
 use Rattle.hol_terms.specs.Term.{Term}
-use Rattle.hol_terms.specs.TermStore.{TermStore, Keeps, term_tree}
+use Rattle.hol_terms.specs.TermStore.{TermStore, Keeps}
 use Rattle.hol_terms.specs.Substitution.{type_variables}
 use Rattle.hol_terms.specs.Formula.{In, ChangesNone}
 use Rattle.hol_terms.proofs.KeepsLemmas.{subst_same}

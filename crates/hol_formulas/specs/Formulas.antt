@@ -1,5 +1,5 @@
 -- Numbers of formulas in a store of terms.
-use Rattle.std.specs.Prelude.{◌≡◌, ℕ, List, map}
+use Rattle.std.specs.Prelude.{ℕ, List, map}
 use Rattle.hol_types.specs.Ty.{Ty}
 use Rattle.hol_terms.specs.Term.{Term, FreeTm}
 use Rattle.hol_terms.specs.declared.node.FreeKind.TheVariants.{Open}

@@ -90,6 +90,46 @@ fn find_in_types<S: Terms>(
     Ok(())
 }
 
+/// Adds the type variables of the parts of a deep type that isn't seen.
+fn find_beneath<S: Terms>(
+    store: &S,
+    seen: &mut HashSet<TypeId>,
+    found: &mut Vec<TypeId>,
+    t: TypeId,
+) -> Result<(), AllocError>
+    requires there { HasType (S.store store.now).types t }
+    requires seen { AllTypesFound (S.store store.now).types found.old.items seen.old }
+    ensures adds { OnOk result (AddsTypes (S.store store.now).types found.old.items found.new.items (variables_of (type_tree (S.store store.now).types t))) }
+    ensures seen { OnOk result (AllTypesFound (S.store store.now).types found.new.items seen.new) }
+{
+    if seen.contains(&t) {
+        return Ok(());
+    }
+    let parts = store.deep_type_parts(t)?;
+    for part in parts.as_slice() {
+        find_in_type(store, seen, found, *part)?;
+    }
+    Ok(())
+}
+
+/// Adds the type variables of a whole type, which may be deep.
+fn find_in_whole_type<S: Terms>(
+    store: &S,
+    seen: &mut HashSet<TypeId>,
+    found: &mut Vec<TypeId>,
+    t: TypeId,
+) -> Result<(), AllocError>
+    requires there { HasType (S.store store.now).types t }
+    requires seen { AllTypesFound (S.store store.now).types found.old.items seen.old }
+    ensures finds { OnOk result (FindsTypes (S.store store.now).types found.new.items (variables_of (type_tree (S.store store.now).types t))) }
+    ensures adds { OnOk result (AddsTypes (S.store store.now).types found.old.items found.new.items (variables_of (type_tree (S.store store.now).types t))) }
+    ensures seen { OnOk result (AllTypesFound (S.store store.now).types found.new.items seen.new) }
+{
+    find_beneath(store, seen, found, t)?;
+    find_in_type(store, seen, found, t)?;
+    Ok(())
+}
+
 /// Adds the type variables of a type, beside the terms that were seen.
 fn find_beside<S: Terms>(
     store: &S,
@@ -106,7 +146,7 @@ fn find_beside<S: Terms>(
     ensures types { OnOk result (AllTypesFound (S.store store.now).types found.new.items types.new) }
     ensures terms { OnOk result (AllTermsFound (S.store store.now) found.new.items terms.now) }
 {
-    find_in_type(store, types, found, t)?;
+    find_in_whole_type(store, types, found, t)?;
     Ok(())
 }
 

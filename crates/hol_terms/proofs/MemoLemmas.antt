@@ -1,5 +1,5 @@
 -- What is remembered stays right where more is put to it.
-use Rattle.std.proofs.Common.{◌≡◌, ℕ, Option, Some, None, cond, Bool, true, false, refl, sym, ap, ◌∙◌, subst, ◌&&◌, nat_eq}
+use Rattle.std.proofs.Common.{◌≡◌, ℕ, Some, cond, Bool, true, false, refl, sym, ap, ◌∙◌, subst, nat_eq}
 use Rattle.std.specs.HashMap.{get_by}
 use Rattle.std.specs.Map.{lookup}
 use Rattle.std.specs.HashSet.{HashSet, contains}

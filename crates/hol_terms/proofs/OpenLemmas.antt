@@ -1,5 +1,5 @@
 -- The parts of a term, opened, closed or at other types, fit together again.
-use Rattle.std.proofs.Common.{◌≡◌, ℕ, ◌+◌, List, Bool, true, false, not, cond, refl, sym, ap, ◌∙◌, subst, true≢false, eq-eqb, inl, inr, ⊎_elim}
+use Rattle.std.proofs.Common.{◌≡◌, ℕ, ◌+◌, List, Bool, true, false, not, cond, refl, sym, ap, ◌∙◌, subst, true≢false, eq-eqb, inl, ⊎_elim}
 use Rattle.std.specs.Prelude.{◌↔◌}
 use Rattle.std.proofs.Math.Dec.{eqb}
 use Rattle.hol_types.proofs.TypeLemmas.{eqb_sound}

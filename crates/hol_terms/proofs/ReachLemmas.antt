@@ -1,7 +1,6 @@
 -- How far the loose Bounds of a term reach, and what follows where they don't reach an index.
-use Rattle.std.proofs.Common.{◌≡◌, ℕ, ◌+◌, ◌-◌, ◌<◌, ◌≤◌, ◌==◌, cond, Bool as Truth, true, false, refl, sym, ap, ◌∙◌, arith}
-use Rattle.std.specs.Prelude.{max, ◌↔◌}
-use Rattle.std.proofs.Math.Dec.{eqb}
+use Rattle.std.proofs.Common.{◌≡◌, ℕ, ◌+◌, ◌≤◌, arith}
+use Rattle.std.specs.Prelude.{◌↔◌}
 use Rattle.hol_types.specs.Ty.{Ty}
 use Rattle.hol_terms.specs.Term.{Term, FreeTm, BoundTm, ConstTm, NumTm, AppTm, LamTm, BoundsFit}
 use Rattle.hol_terms.specs.Reach.{reach_of}

@@ -1,8 +1,8 @@
 -- Trees by numbers: a term's tree is its node's, stays where the store grows, and tells the terms apart.
-use Rattle.std.proofs.Common.{◌≡◌, ℕ, zero, suc, ◌+◌, ◌<◌, ◌≤◌, ◌⊎◌, List, [], ◌∷◌, ◌++◌, length, slice_get, get_or, Some, None, refl, sym, ap, ◌∙◌, subst, inl, inr, arith, pos, Option, append_assoc, length-append}
+use Rattle.std.proofs.Common.{◌≡◌, ℕ, zero, suc, ◌<◌, ◌≤◌, ◌⊎◌, List, [], ◌∷◌, ◌++◌, length, slice_get, Some, refl, sym, ap, ◌∙◌, subst, inl, inr, arith, pos, append_assoc, length-append}
 use Rattle.std.proofs.lemmas.List.{append-nil}
-use Rattle.std.proofs.lemmas.Option.{slice_get_within, slice_get-get_or, get_or_from_slice_get, none-some, same_Some}
-use Rattle.hol_types.specs.Once.{Once, Absent, Holds}
+use Rattle.std.proofs.lemmas.Option.{slice_get_within, slice_get-get_or, get_or_from_slice_get, none-some}
+use Rattle.hol_types.specs.Once.{Absent}
 use Rattle.hol_types.specs.Ty.{Ty, FunTy}
 use Rattle.hol_types.specs.TypeStore as types
 use Rattle.hol_types.specs.declared.node.TypeNode.{TypeNode}
@@ -14,7 +14,7 @@ use Rattle.hol_types.proofs.MarkLemmas.{back_part}
 use Rattle.hol_types.proofs.TypeLemmas.{Holds-get_or, Once-get_or, Holds-length, type_tree-injective, FunTy-parts}
 use Rattle.hol_types.proofs.Places.{slice_get-push, slice_get-left, slice_get-last, Once-push}
 use Rattle.std.proofs.lemmas.Bool.{cases_lt}
-use Rattle.hol_terms.specs.Term.{Term, FreeTm, BoundTm, ConstTm, NumTm, AppTm, LamTm, Typed, ty_of, result_ty}
+use Rattle.hol_terms.specs.Term.{Term, FreeTm, BoundTm, ConstTm, AppTm, LamTm, Typed, ty_of, result_ty}
 use Rattle.hol_terms.specs.Reach.{reach_of}
 use Rattle.hol_terms.specs.TermStore.{TermStore, node_at, node_tree, tree_within, term_tree, tree_of, HasTerm, PartsBelow, HasParts, IsTermShape, IsTermStore, GrowsTo, TermsApart, Applies, joined, empty_store, Keeps}
 use Rattle.hol_terms.specs.declared.node.Node.{Node}

@@ -1,8 +1,8 @@
 -- What is kept of terms: the types, and nodes by number, with the numbers of their types and how far their loose
 -- Bounds reach. A number stands for a tree.
-use Rattle.std.specs.Prelude.{◌≡◌, ℕ, zero, suc, ◌<◌, ◌≤◌, List, [], ◌∷◌, ◌++◌, length, take, slice_get, slice_index_or, Some, pos}
+use Rattle.std.specs.Prelude.{◌≡◌, ℕ, zero, suc, ◌<◌, ◌≤◌, List, [], ◌++◌, length, take, slice_get, slice_index_or, Some, pos}
 use Rattle.hol_types.specs.Once.{Once, Holds}
-use Rattle.hol_types.specs.Ty.{Ty, FunTy}
+use Rattle.hol_types.specs.Ty.{FunTy}
 use Rattle.hol_types.specs.KeepsTypes.{KeepsTypes}
 use Rattle.hol_types.specs.TypeStore.{TypeStore, IsTypeStore, HasName, HasType, type_tree, text_of, arity_of, empty_types}
 use Rattle.hol_types.specs.TypeStore as types

@@ -22,10 +22,15 @@ use std::alloc::{AllocError, Global};
 use std::marker::Model;
 
 /// A store of names, types and terms.
-#[derive(Drop)]
 pub struct Base {
     none: TermTables,
     own: TermTables,
+}
+
+impl Drop for Base {
+    fn drop(self) {
+        let Base { none: _, own: _ } = self;
+    }
 }
 
 impl Model for Base {
@@ -53,10 +58,15 @@ impl Model for Frozen {
 }
 
 /// A store that goes on from one that changes no more. It copies nothing of that, whose numbers are its own too.
-#[derive(Drop)]
 pub struct Store<'b> {
     base: &'b Frozen,
     own: TermTables,
+}
+
+impl Drop for Store<'_> {
+    fn drop(self) {
+        let Store { base: _, own: _ } = self;
+    }
 }
 
 impl<'b> Model for Store<'b> {

@@ -3,7 +3,8 @@
 ghost use Rattle.std.specs.Prelude.{◌≡◌, IfOk, OnOk};
 ghost use Rattle.std.specs.List.{AllByRecursion};
 ghost use Rattle.hol_types.specs.Once.{IsAdded};
-ghost use Rattle.hol_types.specs.TypeStore.{HasType};
+ghost use Rattle.hol_types.specs.Deep.{IsTypePart};
+ghost use Rattle.hol_types.specs.TypeStore.{HasType, type_tree};
 ghost use Rattle.hol_terms.specs.Term.{Term};
 ghost use Rattle.hol_terms.specs.Deep.{IsPart};
 ghost use Rattle.hol_terms.specs.TermStore.{IsTermStore, HasTerm, joined, term_tree};
@@ -102,7 +103,8 @@ pub(crate) fn deep_parts_in(
     Ok(parts)
 }
 
-/// The distinct parts of a deep type, smaller numbers first, and none of a type that isn't deep.
+/// The distinct parts of a deep type, smaller numbers first, and none of a type that isn't deep. That each part is there
+/// serves no result.
 pub(crate) fn deep_type_parts_in(
     base: &TermTables,
     own: &TermTables,
@@ -110,7 +112,7 @@ pub(crate) fn deep_type_parts_in(
 ) -> Result<Vec<TypeId>, AllocError>
     requires lawful { IsTermStore (joined base.now own.now) }
     requires there { HasType (joined base.now own.now).types t }
-    ensures { IfOk result (λ parts. AllByRecursion (HasType (joined base.now own.now).types) parts.items) }
+    ensures { IfOk result (λ parts. AllByRecursion (IsTypePart (joined base.now own.now).types (type_tree (joined base.now own.now).types t)) parts.items) }
 {
     let alloc = own.allocator();
     types::deep_parts(&base.types, &own.types, alloc, t)

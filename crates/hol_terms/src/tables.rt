@@ -14,7 +14,6 @@ use std::alloc::{AllocError, Global};
 use std::marker::Model;
 
 /// Types and terms.
-#[derive(Drop)]
 pub(crate) struct TermTables {
     pub(crate) types: TypeTables,
     nodes: Table<Node>,
@@ -23,6 +22,19 @@ pub(crate) struct TermTables {
     /// How deep each term is. Nothing that is promised rests on it.
     heights: Vec<u32>,
     alloc: Global,
+}
+
+impl Drop for TermTables {
+    fn drop(self) {
+        let TermTables {
+            types: _,
+            nodes: _,
+            tys: _,
+            reaches: _,
+            heights: _,
+            alloc: _,
+        } = self;
+    }
 }
 
 impl Model for TermTables {

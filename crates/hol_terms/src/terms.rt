@@ -3,6 +3,7 @@ ghost use Rattle.std.specs.Prelude.{◌≡◌, ℕ, ◌↔◌, IsTrue, IfOk, IfS
 ghost use Rattle.std.specs.List.{AllByRecursion};
 ghost use Rattle.hol_types.specs.TypeStore.{HasName, HasType, HasArity, HasTypeParts, NamesApart, TreesApart, arity_of, text_of, type_tree};
 ghost use Rattle.hol_types.specs.TypeStore as types;
+ghost use Rattle.hol_types.specs.Deep.{IsTypePart};
 ghost use Rattle.hol_types.specs.TypeSubst.{HasSubst, NamesOnce, subst_tree, instance_of};
 ghost use Rattle.hol_types.specs.Instance.{AllTypeInstances};
 ghost use Rattle.hol_types.specs.TypeMatch.{Matches, IsLeast, NeverIs};
@@ -190,10 +191,11 @@ pub trait Terms {
         requires { HasTerm (store self.now) t }
         ensures { IfOk result (λ places. AllByRecursion (IsPlace (store self.now) (term_tree (store self.now) t)) places.items) };
 
-    /// The distinct parts of a deep type, smaller numbers first, and none of a type that isn't deep.
+    /// The distinct parts of a deep type, smaller numbers first, and none of a type that isn't deep. That each part is
+    /// there serves no result.
     fn deep_type_parts(&self, t: TypeId) -> Result<Vec<TypeId>, AllocError>
         requires { HasType (store self.now).types t }
-        ensures { IfOk result (λ parts. AllByRecursion (HasType (store self.now).types) parts.items) };
+        ensures { IfOk result (λ parts. AllByRecursion (IsTypePart (store self.now).types (type_tree (store self.now).types t)) parts.items) };
 
     /// Whether a term has no loose Bound.
     final fn is_closed(&self, t: TermId) -> bool

@@ -7,4 +7,6 @@ pub mod KeepsLemmas
 pub mod InstanceLemmas
 pub mod TyEqLemmas
 pub mod MatchLemmas
+pub mod PairLemmas
+pub mod DeepLemmas
 mod TypeExamples

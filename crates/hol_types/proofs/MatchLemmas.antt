@@ -1,18 +1,17 @@
 -- Matching of types: extensions, and the least that make a pattern a type.
-use Rattle.std.proofs.Common.{◌≡◌, ℕ, zero, suc, ◌+◌, ◌<◌, ◌≤◌, ◌⊎◌, List, [], ◌∷◌, ◌++◌, length, get_or, slice_get, Option, Some, None, cond, Bool as Truth, true, false, refl, sym, ap, ◌∙◌, subst, inl, inr, arith, unwrap_or, option_map, true≢false, bytes_eq, nat_eq, ap₂}
+use Rattle.std.proofs.Common.{◌≡◌, ℕ, zero, suc, ◌+◌, ◌<◌, List, [], ◌∷◌, ◌++◌, length, get_or, slice_get, Option, Some, None, cond, Bool as Truth, true, false, refl, sym, ap, ◌∙◌, subst, arith, unwrap_or, option_map, bytes_eq, nat_eq, ap₂}
 use Rattle.std.specs.Prelude.{map}
 use Rattle.std.specs.HashMap.{get_by}
 use Rattle.std.specs.Map.{lookup}
 use Rattle.std.specs.List.{AllByRecursion}
 use Rattle.std.proofs.Math.Dec.{eqb}
-use Rattle.std.proofs.lemmas.Bool.{eqb-true, eq-eqb}
-use Rattle.std.proofs.lemmas.Option.{none-some, same_Some, slice_get_within, slice_get-get_or}
+use Rattle.std.proofs.lemmas.Option.{none-some, same_Some, slice_get-get_or}
 use Rattle.hol_types.specs.Once.{Once, Absent}
 use Rattle.hol_types.specs.Ty.{Ty, Tys, BoolTy, IntTy, VarTy, FunTy, ConsTy, no_types, more_types}
 use Rattle.hol_types.specs.TypeStore.{TypeStore, IsTypeStore, HasName, HasType, TreesApart, type_tree, text_of, trees_at}
 use Rattle.hol_types.specs.TypeSubst.{TypeSubst, HasSubst, NamesOnce, subst_tree, type_for, instance_of, instances_of, variables_of, variables_of_all}
 use Rattle.hol_types.specs.TypeMatch.{Extends, Gives, Matches, IsLeast, IsNone, NeverIs}
-use Rattle.hol_types.specs.Matching.{IsGiven, same, other, new, IsAnswer, found, refused, Done, IsPart, AllDone, MatchFirst}
+use Rattle.hol_types.specs.Matching.{IsGiven, same, other, new, IsAnswer, found, refused, Done, IsTypePart, AllDone, MatchFirst}
 use Rattle.hol_types.proofs.TypeLemmas.{trees_apart, eqb_sound, eqb_complete, lookup-left, lookup-right}
 use Rattle.hol_types.proofs.Places.{Once-push}
 use Rattle.hol_types.proofs.TyEqLemmas.{text_eq_sound, text_eq_refl}
@@ -82,10 +81,10 @@ least_both P Q R kept both left right s u v a b = record {
 fun_both : (a b c d : Ty) (v : TypeSubst) → Matches a c v → Matches b d v → Matches (FunTy a b) (FunTy c d) v
 fun_both a b c d v m n = record { given = All_append (λ x. Gives v x) (variables_of a) (variables_of b) m.given n.given; is = ap₂ FunTy m.is n.is }
 
-fun_left : (a b c d : Ty) (v : TypeSubst) → Matches (FunTy a b) (FunTy c d) v → Matches a c v
+pub fun_left : (a b c d : Ty) (v : TypeSubst) → Matches (FunTy a b) (FunTy c d) v → Matches a c v
 fun_left a b c d v m = let e = m.is in record { given = All_left (λ x. Gives v x) (variables_of a) (variables_of b) m.given; is = cc }
 
-fun_right : (a b c d : Ty) (v : TypeSubst) → Matches (FunTy a b) (FunTy c d) v → Matches b d v
+pub fun_right : (a b c d : Ty) (v : TypeSubst) → Matches (FunTy a b) (FunTy c d) v → Matches b d v
 fun_right a b c d v m = let e = m.is in record { given = All_right (λ x. Gives v x) (variables_of a) (variables_of b) m.given; is = cc }
 
 -- the two sides, one after the other
@@ -122,7 +121,7 @@ ground_answer s apart p t has_p has_t fixed none σ false e =
     refused (record { none = λ v k m. eqb_complete p t (sym e) (apart p t has_p has_t (sym (fixed v) ∙ m.is)) })
 
 -- a part that is done already is that type and no other
-pub known_answer : (s : TypeStore) → TreesApart s → (σ : TypeSubst) (p u t : ℕ) → IsPart s σ p u → HasType s t → (r : Truth) → r ≡ eqb u t → IsAnswer (Matches (type_tree s p) (type_tree s t)) σ σ r
+pub known_answer : (s : TypeStore) → TreesApart s → (σ : TypeSubst) (p u t : ℕ) → IsTypePart s σ p u → HasType s t → (r : Truth) → r ≡ eqb u t → IsAnswer (Matches (type_tree s p) (type_tree s t)) σ σ r
 known_answer s apart σ p u t is has_t true e = found (least_here (subst (λ x. Matches (type_tree s p) (type_tree s x) σ) (eqb_sound u t (sym e)) is.is))
 known_answer s apart σ p u t is has_t false e =
     refused (record { none = λ v k m. eqb_complete u t (sym e) (apart u t is.type has_t (sym (matches_kept k is.is).is ∙ m.is)) })
@@ -359,11 +358,11 @@ given_before n t u ps h true e = same (h ∙ ap Some (eqb_sound u t (sym e)))
 given_before n t u ps h false e = other u h (eqb_complete u t (sym e))
 
 -- one more part that is done
-pub done_put : (s : TypeStore) (σ : TypeSubst) (m n : Done) (p t : ℕ) → AllDone s σ m → ((q : ℕ) → get_by (nat_eq q) n ≡ cond (nat_eq p q) (Some t) (get_by (nat_eq q) m)) → IsPart s σ p t → AllDone s σ n
+pub done_put : (s : TypeStore) (σ : TypeSubst) (m n : Done) (p t : ℕ) → AllDone s σ m → ((q : ℕ) → get_by (nat_eq q) n ≡ cond (nat_eq p q) (Some t) (get_by (nat_eq q) m)) → IsTypePart s σ p t → AllDone s σ n
 done_put s σ m n p t old puts here = record { each = λ q u h. split_at q u (eqb p q) refl (sym (puts q) ∙ h) }
   where
-    split_at : (q u : ℕ) (b : Truth) → eqb p q ≡ b → cond b (Some t) (get_by (nat_eq q) m) ≡ Some u → IsPart s σ q u
-    split_at q u true e f = subst (λ z. IsPart s σ z u) (eqb_sound p q e) (subst (λ z. IsPart s σ p z) (same_Some t u f) here)
+    split_at : (q u : ℕ) (b : Truth) → eqb p q ≡ b → cond b (Some t) (get_by (nat_eq q) m) ≡ Some u → IsTypePart s σ q u
+    split_at q u true e f = subst (λ z. IsTypePart s σ z u) (eqb_sound p q e) (subst (λ z. IsTypePart s σ p z) (same_Some t u f) here)
     split_at q u false e f = old.each q u f
 
 -- an answer by its test

@@ -10,3 +10,5 @@ pub mod Matching
 pub mod TypeMark
 pub mod KeepsTypes
 pub mod Roomy
+pub mod Pairs
+pub mod Deep

@@ -5,7 +5,7 @@ use Rattle.std.specs.HashMap.{HashMap, get_by}
 use Rattle.std.specs.declared.hash.FoldHasher.{FoldHasher}
 use Rattle.std.specs.declared.hash.BuildHasherDefault.{BuildHasherDefault}
 use Rattle.hol_types.specs.TypeStore.{TypeStore, HasType, type_tree}
-use Rattle.hol_types.specs.TypeSubst.{TypeSubst, subst_tree}
+use Rattle.hol_types.specs.TypeSubst.{TypeSubst}
 use Rattle.hol_types.specs.TypeMatch.{Matches, IsLeast, IsNone}
 
 -- the answer for a variable, and the types that are given then: it has the type already, or another, or it has it now
@@ -24,14 +24,14 @@ abbrev pub Done : Type 0
 Done = HashMap ℕ ℕ (BuildHasherDefault FoldHasher)
 
 -- a part of the pattern is the type
-pub record IsPart (s : TypeStore) (σ : TypeSubst) (p t : ℕ) : Type 0 where
+pub record IsTypePart (s : TypeStore) (σ : TypeSubst) (p t : ℕ) : Type 0 where
   pub pattern : HasType s p
   pub type : HasType s t
   pub is : Matches (type_tree s p) (type_tree s t) σ
 
 -- so is each that is done
 pub record AllDone (s : TypeStore) (σ : TypeSubst) (m : Done) : Type 0 where
-  pub each : (p t : ℕ) → get_by (nat_eq p) m ≡ Some t → IsPart s σ p t
+  pub each : (p t : ℕ) → get_by (nat_eq p) m ≡ Some t → IsTypePart s σ p t
 
 -- the first patterns are the first types
 pub record MatchFirst (s : TypeStore) (ps ts : List ℕ) (k : ℕ) (σ : TypeSubst) : Type 0 where

@@ -2,8 +2,10 @@
 //! only.
 ghost use Rattle.std.specs.Prelude.{◌≡◌, IfOk, OnOk};
 ghost use Rattle.std.specs.List.{AllByRecursion};
+ghost use Rattle.hol_types.specs.Deep.{IsTypePart};
 ghost use Rattle.hol_types.specs.Once.{IsAdded};
-ghost use Rattle.hol_types.specs.TypeStore.{IsTypeStore, HasType, joined};
+ghost use Rattle.hol_types.specs.Ty.{Ty};
+ghost use Rattle.hol_types.specs.TypeStore.{IsTypeStore, HasType, joined, type_tree};
 
 use crate::node::{TypeId, TypeNode};
 use crate::tables::{TypeTables, height_in, known_node_in};
@@ -11,7 +13,7 @@ use std::alloc::{AllocError, Global};
 use std::collections::HashSet;
 
 /// How many levels a walk may go down by calling itself.
-const SHALLOW: u32 = 1000;
+pub(crate) const SHALLOW: u32 = 1000;
 
 /// Adds a part to those found, unless it is there.
 fn add_part(
@@ -37,9 +39,7 @@ fn add_all(
     parts: &mut Vec<TypeId>,
     ts: &[TypeId],
 ) -> Result<(), AllocError>
-    requires types { AllByRecursion (HasType (joined base.now own.now)) ts.now }
-    requires parts { AllByRecursion (HasType (joined base.now own.now)) parts.old.items }
-    ensures { OnOk result (AllByRecursion (HasType (joined base.now own.now)) parts.new.items) }
+    ensures { OnOk result ((whole : Ty) → AllByRecursion (IsTypePart (joined base.now own.now) whole) ts.now → AllByRecursion (IsTypePart (joined base.now own.now) whole) parts.old.items → AllByRecursion (IsTypePart (joined base.now own.now) whole) parts.new.items) }
 {
     for t in ts {
         add_part(found, parts, *t)?;
@@ -57,8 +57,7 @@ fn add_beneath(
 ) -> Result<(), AllocError>
     requires lawful { IsTypeStore (joined base.now own.now) }
     requires there { HasType (joined base.now own.now) t }
-    requires parts { AllByRecursion (HasType (joined base.now own.now)) parts.old.items }
-    ensures { OnOk result (AllByRecursion (HasType (joined base.now own.now)) parts.new.items) }
+    ensures { OnOk result ((whole : Ty) → IsTypePart (joined base.now own.now) whole t → AllByRecursion (IsTypePart (joined base.now own.now) whole) parts.old.items → AllByRecursion (IsTypePart (joined base.now own.now) whole) parts.new.items) }
 {
     match known_node_in(base, own, t) {
         TypeNode::Fun(a, b) => {
@@ -86,7 +85,7 @@ fn parts_of(
 ) -> Result<Vec<TypeId>, AllocError>
     requires lawful { IsTypeStore (joined base.now own.now) }
     requires there { HasType (joined base.now own.now) t }
-    ensures { IfOk result (λ parts. AllByRecursion (HasType (joined base.now own.now)) parts.items) }
+    ensures { IfOk result (λ parts. AllByRecursion (IsTypePart (joined base.now own.now) (type_tree (joined base.now own.now) t)) parts.items) }
 {
     let mut found = HashSet::new(alloc);
     let mut parts = Vec::new(alloc);
@@ -111,7 +110,7 @@ pub fn deep_parts(
 ) -> Result<Vec<TypeId>, AllocError>
     requires lawful { IsTypeStore (joined base.now own.now) }
     requires there { HasType (joined base.now own.now) t }
-    ensures { IfOk result (λ parts. AllByRecursion (HasType (joined base.now own.now)) parts.items) }
+    ensures { IfOk result (λ parts. AllByRecursion (IsTypePart (joined base.now own.now) (type_tree (joined base.now own.now) t)) parts.items) }
 {
     if height_in(base, own, t) <= SHALLOW {
         return Ok(Vec::new(alloc));

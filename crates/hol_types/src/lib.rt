@@ -8,6 +8,7 @@ mod layer;
 mod list;
 mod matching;
 mod node;
+mod pairs;
 mod room;
 mod send;
 mod table;

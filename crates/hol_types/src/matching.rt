@@ -1,15 +1,17 @@
 //! Types for the type variables of a pattern that make it a type.
-ghost use Rattle.std.specs.Prelude.{◌≡◌, ℕ, ◌<◌, ◌+◌, ◌*◌, IfOk, IfSome, Some, None, true, length};
+ghost use Rattle.std.specs.Prelude.{◌≡◌, ℕ, ◌<◌, ◌+◌, ◌*◌, IfOk, IfSome, Some, None, true, false, length};
 ghost use Rattle.std.specs.List.{AllByRecursion};
 ghost use Rattle.hol_types.specs.Ty.{Ty, Tys, FunTy, ConsTy};
 ghost use Rattle.hol_types.specs.TypeStore.{IsTypeStore, HasName, HasType, arity_of, joined, text_of, type_tree, trees_at};
 ghost use Rattle.hol_types.specs.TypeSubst.{HasSubst, NamesOnce, subst_tree};
-ghost use Rattle.hol_types.specs.TypeMatch.{Matches, IsLeast, NeverIs};
+ghost use Rattle.hol_types.specs.TypeMatch.{Matches, IsLeast, IsNone, NeverIs};
+ghost use Rattle.hol_types.specs.Pairs.{IsAhead};
 ghost use Rattle.hol_types.specs.Matching.{IsGiven, IsAnswer, MatchFirst, AllDone};
 
 use crate::instance::{Subst, given};
 use crate::list::List;
 use crate::node::{NameId, TypeId, TypeNode};
+use crate::pairs::deep_pairs;
 use crate::tables::{TypeTables, known_node_in};
 use std::alloc::{AllocError, Global};
 use std::collections::HashMap;
@@ -35,7 +37,11 @@ fn match_variable(
 }
 
 /// The two sides of a function type.
-fn function_sides(base: &TypeTables, own: &TypeTables, t: TypeId) -> Option<(TypeId, TypeId)>
+pub(crate) fn function_sides(
+    base: &TypeTables,
+    own: &TypeTables,
+    t: TypeId,
+) -> Option<(TypeId, TypeId)>
     requires lawful { IsTypeStore (joined base.now own.now) }
     requires there { HasType (joined base.now own.now) t }
     ensures there { IfSome result (λ p. HasType (joined base.now own.now) p.0 × HasType (joined base.now own.now) p.1) }
@@ -197,6 +203,37 @@ fn match_args(
     Ok(true)
 }
 
+/// Matches the parts of a deep pattern, as far as they can be what they have to be. False only where the pattern can't.
+fn match_beneath(
+    base: &TypeTables,
+    own: &TypeTables,
+    alloc: Global,
+    found: &mut Vec<(NameId, TypeId)>,
+    done: &mut Done,
+    pattern: TypeId,
+    t: TypeId,
+) -> Result<bool, AllocError>
+    requires lawful { IsTypeStore (joined base.now own.now) }
+    requires pattern { HasType (joined base.now own.now) pattern }
+    requires there { HasType (joined base.now own.now) t }
+    requires found { HasSubst (joined base.now own.now) found.old.items }
+    requires done { AllDone (joined base.now own.now) (subst_tree (joined base.now own.now) found.old.items) done.old }
+    ensures refused { IfOk result (λ r. r ≡ false → IsNone (Matches (type_tree (joined base.now own.now) pattern) (type_tree (joined base.now own.now) t)) (subst_tree (joined base.now own.now) found.old.items)) }
+    ensures ahead { IfOk result (λ r. r ≡ true → IsAhead (type_tree (joined base.now own.now) pattern) (type_tree (joined base.now own.now) t) (subst_tree (joined base.now own.now) found.old.items) (subst_tree (joined base.now own.now) found.new.items)) }
+    ensures found { IfOk result (λ _. HasSubst (joined base.now own.now) found.new.items) }
+    ensures once { IfOk result (λ _. NamesOnce found.old.items → NamesOnce found.new.items) }
+    ensures done { IfOk result (λ _. AllDone (joined base.now own.now) (subst_tree (joined base.now own.now) found.new.items) done.new) }
+{
+    let pairs = deep_pairs(base, own, alloc, pattern, t)?;
+    for pair in pairs.as_slice() {
+        let matched = match_part(base, own, found, done, pair.0, pair.1)?;
+        if !matched {
+            return Ok(false);
+        }
+    }
+    Ok(true)
+}
+
 /// The least extension of s that gives each type variable of the pattern a type, so that with these the pattern is the
 /// type. None exactly where under no extension of s the pattern is the type.
 pub fn match_in(
@@ -218,6 +255,10 @@ pub fn match_in(
 {
     let mut found = Vec::from_slice(alloc, s)?;
     let mut done = HashMap::new(alloc);
+    let may = match_beneath(base, own, alloc, &mut found, &mut done, pattern, t)?;
+    if !may {
+        return Ok(None);
+    }
     let matched = match_part(base, own, &mut found, &mut done, pattern, t)?;
     if matched {
         return Ok(Some(List::new(found)));

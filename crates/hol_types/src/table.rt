@@ -21,9 +21,14 @@ pub trait Exact: Eq + Hash {
 }
 
 /// Items in the order in which they came, each once.
-#[derive(Drop)]
 pub struct Table<T: Exact> {
     items: IndexSet<T>,
+}
+
+impl<T: Exact + Drop> Drop for Table<T> {
+    fn drop(self) {
+        let Table { items: _ } = self;
+    }
 }
 
 impl<T: Exact> Model for Table<T> {

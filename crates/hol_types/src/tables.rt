@@ -33,7 +33,6 @@ impl From<AllocError> for TypeFault {
 }
 
 /// Names, declared constructors and types.
-#[derive(Drop)]
 pub struct TypeTables {
     names: Table<Bytes>,
     arities: IndexMap<NameId, u32>,
@@ -41,6 +40,18 @@ pub struct TypeTables {
     /// How deep each type is. Nothing that is promised rests on it.
     heights: Vec<u32>,
     alloc: Global,
+}
+
+impl Drop for TypeTables {
+    fn drop(self) {
+        let TypeTables {
+            names: _,
+            arities: _,
+            nodes: _,
+            heights: _,
+            alloc: _,
+        } = self;
+    }
 }
 
 impl Model for TypeTables {

@@ -16,11 +16,20 @@ use std::alloc::{AllocError, Global};
 use std::marker::Model;
 
 /// Names and types. A type's number stands for its tree: two numbers are equal exactly where their trees are.
-#[derive(Drop)]
 pub struct Types {
     none: TypeTables,
     own: TypeTables,
     alloc: Global,
+}
+
+impl Drop for Types {
+    fn drop(self) {
+        let Types {
+            none: _,
+            own: _,
+            alloc: _,
+        } = self;
+    }
 }
 
 impl Model for Types {

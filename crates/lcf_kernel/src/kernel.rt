@@ -27,7 +27,6 @@ use std::marker::Model;
 
 /// Records of theorems over a store of terms. Each record's conclusion is derivable from the facts, with the context
 /// and the record's hypotheses as hypotheses.
-#[derive(Drop)]
 pub struct Kernel<'b> {
     store: Store<'b>,
     constants: Constants,
@@ -43,8 +42,24 @@ pub struct Kernel<'b> {
     alloc: Global,
 }
 
+impl Drop for Kernel<'_> {
+    fn drop(self) {
+        let Kernel {
+            store: _,
+            constants: _,
+            facts: _,
+            context: _,
+            ordered: _,
+            variables: _,
+            type_variables: _,
+            thms: _,
+            alloc: _,
+        } = self;
+    }
+}
+
 /// What a kernel holds beside its terms.
-#[derive(Debug, Drop)]
+#[derive(Debug)]
 pub struct Records {
     /// How much of the terms is the base's.
     pub base: Mark,
@@ -60,6 +75,20 @@ pub struct Records {
     pub type_variables: List<TypeId>,
     /// The records, in the order in which they were made.
     pub thms: List<Thm>,
+}
+
+impl Drop for Records {
+    fn drop(self) {
+        let Records {
+            base: _,
+            constants: _,
+            facts: _,
+            context: _,
+            variables: _,
+            type_variables: _,
+            thms: _,
+        } = self;
+    }
 }
 
 impl<'b> Model for Kernel<'b> {

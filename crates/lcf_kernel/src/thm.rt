@@ -47,7 +47,7 @@ pub enum Made {
 }
 
 /// A record: a conclusion with its hypotheses outside the context.
-#[derive(Debug, Drop)]
+#[derive(Debug)]
 pub struct Thm {
     /// In rising order, each once.
     pub hyps: List<TermId>,
@@ -57,4 +57,15 @@ pub struct Thm {
     pub made: Made,
     /// Whether it was derived without facts.
     pub bare: bool,
+}
+
+impl Drop for Thm {
+    fn drop(self) {
+        let Thm {
+            hyps: _,
+            concl: _,
+            made: _,
+            bare: _,
+        } = self;
+    }
 }

@@ -1,8 +1,8 @@
 -- A walk over the parts of a term.
-use Rattle.std.proofs.Common.{◌≡◌, ◌⊎◌, ℕ, ◌<◌, ◌≤◌, ◌+◌, List, [], ◌∷◌, ◌++◌, map, length, Bool, true, false, true≢false, not, cond, inl, inr, ⊎_elim, refl, sym, ap, subst, ◌∙◌, arith, nat_eq, eq-eqb}
+use Rattle.std.proofs.Common.{◌≡◌, ◌⊎◌, ℕ, ◌<◌, ◌≤◌, List, [], ◌∷◌, ◌++◌, length, Bool, true, false, true≢false, not, cond, inl, inr, ⊎_elim, refl, sym, ap, subst, ◌∙◌, arith, nat_eq, eq-eqb}
 use Rattle.std.specs.Prelude.{fold, ◌||◌}
 use Rattle.std.specs.List.{AllByRecursion, list_any}
-use Rattle.std.proofs.lemmas.List.{append-nil, append_assoc, map-append, length-append}
+use Rattle.std.proofs.lemmas.List.{map-append, length-append}
 use Rattle.std.proofs.lemmas.List.Sums.{fold-append}
 use Rattle.indexmap.specs.IndexSet.{insert_key}
 use Rattle.hol_types.proofs.TypeLemmas.{eqb_sound}
@@ -10,9 +10,9 @@ use Rattle.hol_terms.specs.Term.{Term}
 use Rattle.hol_terms.specs.TermEq.{term_eq}
 use Rattle.hol_terms.specs.TermStore.{TermStore, HasTerm, TermsApart, term_tree}
 use Rattle.hol_terms.specs.Formula.{In}
-use Rattle.hol_terms.proofs.TermEqLemmas.{term_eq_refl, term_eq_sound, term_eq_same}
+use Rattle.hol_terms.proofs.TermEqLemmas.{term_eq_sound, term_eq_same}
 use Rattle.hol_terms.proofs.SetLemmas.{in_append_left, in_append_right, in_append_either, in_map}
-use Rattle.part_numbers.specs.Parts.{met_in, met_beneath, with_part, with_parts_of, parts_of}
+use Rattle.part_numbers.specs.Parts.{met_in, met_beneath, with_part, with_parts_of}
 use Rattle.part_numbers.specs.Walk.{terms_at, ahead, Pushes, IsCovered, AreCovered, AreReady, IsWalk}
 use Rattle.part_numbers.proofs.StackLemmas.{ahead_append, ahead_last, all_append}
 

@@ -1,7 +1,7 @@
 -- The distinct parts of terms, numbered from 0 in the order in which they are met: each term before its arguments from
 -- left to right, a lambda before its body. The head of an application is no part, unless it is a lambda. A lambda's body
 -- is taken as it stands, with its Bounds.
-use Rattle.std.specs.Prelude.{ℕ, List, [], ◌∷◌, ◌++◌, fold, if◌then◌else◌}
+use Rattle.std.specs.Prelude.{List, [], ◌∷◌, ◌++◌, fold, if◌then◌else◌}
 use Rattle.std.specs.List.{list_any}
 use Rattle.hol_terms.specs.Term.{Term, FreeTm, BoundTm, ConstTm, NumTm, AppTm, LamTm}
 use Rattle.hol_terms.specs.TermEq.{term_eq}

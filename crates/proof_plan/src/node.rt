@@ -5,7 +5,7 @@ use hol_terms::TermId;
 use hol_types::List;
 
 /// A rule application of a proof.
-#[derive(Debug, Drop)]
+#[derive(Debug)]
 pub struct PlanNode {
     /// The name that a `let` binds to it, else `#` and its place.
     pub name: List<u8>,
@@ -22,4 +22,19 @@ pub struct PlanNode {
     pub claim: TermId,
     /// Its open hypotheses.
     pub hyps: List<TermId>,
+}
+
+impl Drop for PlanNode {
+    fn drop(self) {
+        let PlanNode {
+            name: _,
+            place: _,
+            rule: _,
+            weights: _,
+            premises: _,
+            vars: _,
+            claim: _,
+            hyps: _,
+        } = self;
+    }
 }

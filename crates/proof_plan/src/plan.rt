@@ -17,12 +17,22 @@ use std::marker::Model;
 
 /// A proof of `false` from the assertions of a problem, as rule applications numbered so that each premise
 /// comes before what uses it. Contracts see it as plain data, of which `IsPlan` holds.
-#[derive(Drop)]
 pub struct Plan {
     base: Frozen,
     parts: Parts,
     nodes: List<PlanNode>,
     definitions: List<Def>,
+}
+
+impl Drop for Plan {
+    fn drop(self) {
+        let Plan {
+            base: _,
+            parts: _,
+            nodes: _,
+            definitions: _,
+        } = self;
+    }
 }
 
 impl Model for Plan {
@@ -114,7 +124,13 @@ impl Plan {
         ensures parts { result.1 ≡ self.parts }
         ensures lawful { IsPlan self }
     {
-        (self.base, self.parts)
+        let Plan {
+            base,
+            parts,
+            nodes: _,
+            definitions: _,
+        } = self;
+        (base, parts)
     }
 }
 

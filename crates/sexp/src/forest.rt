@@ -15,9 +15,14 @@ use std::alloc::Global;
 use std::marker::Model;
 
 /// The trees of a text, by number in text order, a list standing before its parts.
-#[derive(Drop)]
 pub struct Forest {
     records: Records,
+}
+
+impl Drop for Forest {
+    fn drop(self) {
+        let Forest { records: _ } = self;
+    }
 }
 
 impl Model for Forest {

@@ -9,7 +9,6 @@ use std::alloc::{AllocError, Global};
 use std::marker::Model;
 
 /// Cuts a text into words, a piece at a time.
-#[derive(Drop)]
 pub struct Lexer {
     bytes: Vec<u8>,
     place: usize,
@@ -17,6 +16,19 @@ pub struct Lexer {
     mode: Mode,
     whole: bool,
     found: Option<Word>,
+}
+
+impl Drop for Lexer {
+    fn drop(self) {
+        let Lexer {
+            bytes: _,
+            place: _,
+            at: _,
+            mode: _,
+            whole: _,
+            found: _,
+        } = self;
+    }
 }
 
 impl Model for Lexer {

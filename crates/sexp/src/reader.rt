@@ -11,7 +11,6 @@ use std::marker::Model;
 
 /// Reads the tokens of a text that comes in pieces. However the bytes are cut, the answers are those of the whole
 /// text.
-#[derive(Drop)]
 pub struct Reader {
     most: u64,
     long: bool,
@@ -19,6 +18,19 @@ pub struct Reader {
     lexer: Lexer,
     pending: Pending,
     nest: Nest,
+}
+
+impl Drop for Reader {
+    fn drop(self) {
+        let Reader {
+            most: _,
+            long: _,
+            fault: _,
+            lexer: _,
+            pending: _,
+            nest: _,
+        } = self;
+    }
 }
 
 impl Model for Reader {

@@ -38,10 +38,18 @@ pub struct Record {
 }
 
 /// Trees by number, in text order.
-#[derive(Drop)]
 pub struct Records {
     records: Vec<Record>,
     texts: Texts,
+}
+
+impl Drop for Records {
+    fn drop(self) {
+        let Records {
+            records: _,
+            texts: _,
+        } = self;
+    }
 }
 
 impl Model for Records {

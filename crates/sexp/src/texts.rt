@@ -6,10 +6,15 @@ use std::alloc::{AllocError, Global};
 use std::marker::Model;
 
 /// Texts, each kept once, by number.
-#[derive(Drop)]
 pub struct Texts {
     alloc: Global,
     set: IndexSet<Vec<u8>>,
+}
+
+impl Drop for Texts {
+    fn drop(self) {
+        let Texts { alloc: _, set: _ } = self;
+    }
 }
 
 impl Model for Texts {

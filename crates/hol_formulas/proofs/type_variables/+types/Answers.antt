@@ -1,4 +1,4 @@
-use Rattle.std.proofs.Common.{◌≡◌, ◌∙◌, ap, sym, arith, subst, ◌<◌}
+use Rattle.std.proofs.Common.{sym, arith}
 use Rattle.hol_types.specs.TypeStore.{type_tree, trees_at}
 use Rattle.hol_types.specs.TypeSubst.{variables_of, variables_of_all}
 use Rattle.hol_formulas.proofs.ListLemmas.{In-from_Contains}

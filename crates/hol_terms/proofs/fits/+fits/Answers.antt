@@ -1,4 +1,4 @@
-use Rattle.std.proofs.Common.{◌≡◌, ◌∙◌, sym, ap, true, rules, refl, arith}
+use Rattle.std.proofs.Common.{◌∙◌, sym, ap, refl, arith}
 use Rattle.std.proofs.lemmas.Bool.{eq-eqb}
 use Rattle.hol_types.specs.TypeStore.{type_tree}
 use Rattle.hol_types.proofs.TypeLemmas.{eqb_sound, type_tree-injective}

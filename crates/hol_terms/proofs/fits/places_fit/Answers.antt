@@ -1,6 +1,4 @@
-use Rattle.hol_types.specs.TypeStore.{type_tree}
 use Rattle.hol_types.proofs.ListLemmas.{item_there}
-use Rattle.std.proofs.Common.{true≢false, sym, ◌∙◌}
 use Rattle.hol_terms.specs.Deep.{IsPlace}
 use Rattle.hol_terms.specs.TermStore.{joined, term_tree}
 use Rattle.hol_terms.proofs.fits.places_fit.Goals as goal

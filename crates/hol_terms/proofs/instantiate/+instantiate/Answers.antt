@@ -1,6 +1,6 @@
-use Rattle.std.proofs.Common.{◌≡◌, ◌∙◌, ap, sym, arith}
+use Rattle.std.proofs.Common.{◌∙◌, ap, sym, arith}
 use Rattle.hol_types.specs.TypeSubst.{subst_tree, instance_of}
-use Rattle.hol_terms.specs.TermStore.{term_tree, HasTerm}
+use Rattle.hol_terms.specs.TermStore.{HasTerm}
 use Rattle.hol_terms.specs.Substitution.{subst_types}
 use Rattle.hol_terms.proofs.KeepsLemmas.{keeps_trans, subst_kept, subst_same, made_kept}
 use Rattle.hol_terms.proofs.MemoLemmas.{instances_kept, instances_put, instances_unchanged}

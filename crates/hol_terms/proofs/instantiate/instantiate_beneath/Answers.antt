@@ -2,7 +2,7 @@ use Rattle.std.proofs.Common.{◌∙◌}
 use Rattle.hol_types.proofs.ListLemmas.{item_there}
 use Rattle.hol_terms.specs.Deep.{IsPart}
 use Rattle.hol_terms.specs.TermStore.{term_tree}
-use Rattle.hol_terms.proofs.KeepsLemmas.{keeps_refl, keeps_trans}
+use Rattle.hol_terms.proofs.KeepsLemmas.{keeps_trans}
 use Rattle.hol_terms.proofs.instantiate.instantiate_beneath.Goals as goal
 
 pub instantiate_part-requires : goal.instantiate_part-requires

@@ -1,7 +1,6 @@
-use Rattle.std.proofs.Common.{◌≡◌, ◌∙◌, sym, ap, ◌++◌}
+use Rattle.std.proofs.Common.{◌∙◌, sym, ap, ◌++◌}
 use Rattle.std.proofs.lemmas.Option.{slice_get_within}
 use Rattle.hol_terms.specs.Term.{ty_of}
-use Rattle.hol_terms.specs.Reach.{reach_of}
 use Rattle.hol_terms.specs.TermStore.{joined}
 use Rattle.hol_terms.proofs.TermLemmas.{GrowsTo-trans, HasParts-grows, tree_of-grows, typed_there, interned_tree, term_tree-step}
 use Rattle.hol_terms.proofs.intern.intern_step.Goals as goal

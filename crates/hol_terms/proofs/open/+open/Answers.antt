@@ -1,4 +1,4 @@
-use Rattle.std.proofs.Common.{◌≡◌, ◌∙◌, ap, sym, arith}
+use Rattle.std.proofs.Common.{◌∙◌, ap, sym, arith}
 use Rattle.hol_terms.specs.TermStore.{term_tree, HasTerm}
 use Rattle.hol_terms.specs.Substitution.{subst_bound}
 use Rattle.hol_terms.proofs.KeepsLemmas.{keeps_trans}

@@ -2,7 +2,7 @@ use Rattle.std.proofs.Common.{◌∙◌}
 use Rattle.hol_types.proofs.ListLemmas.{item_there}
 use Rattle.hol_terms.specs.Deep.{IsPlace}
 use Rattle.hol_terms.specs.TermStore.{term_tree}
-use Rattle.hol_terms.proofs.KeepsLemmas.{keeps_refl, keeps_trans}
+use Rattle.hol_terms.proofs.KeepsLemmas.{keeps_trans}
 use Rattle.hol_terms.proofs.open.open_beneath.Goals as goal
 
 pub open_part-requires : goal.open_part-requires

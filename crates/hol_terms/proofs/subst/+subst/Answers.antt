@@ -1,5 +1,4 @@
-use Rattle.std.proofs.Common.{◌≡◌, ◌∙◌, ap, sym, arith}
-use Rattle.hol_terms.specs.Term.{Typed}
+use Rattle.std.proofs.Common.{◌∙◌, ap, sym, arith}
 use Rattle.hol_terms.specs.TermStore.{term_tree, HasTerm}
 use Rattle.hol_terms.specs.Substitution.{subst_free}
 use Rattle.hol_terms.proofs.KeepsLemmas.{keeps_trans}

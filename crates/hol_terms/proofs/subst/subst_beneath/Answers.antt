@@ -2,7 +2,7 @@ use Rattle.std.proofs.Common.{◌∙◌}
 use Rattle.hol_types.proofs.ListLemmas.{item_there}
 use Rattle.hol_terms.specs.Deep.{IsPart}
 use Rattle.hol_terms.specs.TermStore.{term_tree}
-use Rattle.hol_terms.proofs.KeepsLemmas.{keeps_refl, keeps_trans}
+use Rattle.hol_terms.proofs.KeepsLemmas.{keeps_trans}
 use Rattle.hol_terms.proofs.subst.subst_beneath.Goals as goal
 
 pub subst_part-requires : goal.subst_part-requires

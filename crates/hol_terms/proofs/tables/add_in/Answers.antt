@@ -1,4 +1,4 @@
-use Rattle.std.proofs.Common.{subst, ◌≡◌, ◌++◌, ◌∷◌, [], length, ◌+◌, arith}
+use Rattle.std.proofs.Common.{subst, ◌≡◌, length, ◌+◌, arith}
 use Rattle.hol_types.proofs.Places.{Absent-right, push_at}
 use Rattle.hol_terms.specs.TermStore.{joined, IsTermStore, GrowsTo}
 use Rattle.hol_terms.specs.contracts.tables.TermTables.{the_view}

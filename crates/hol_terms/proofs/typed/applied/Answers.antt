@@ -1,4 +1,4 @@
-use Rattle.std.proofs.Common.{sym, ap, ◌∙◌, ◌≡◌, arith}
+use Rattle.std.proofs.Common.{sym, ap, ◌∙◌, arith}
 use Rattle.hol_types.proofs.TypeLemmas.{eqb_sound, eqb_complete}
 use Rattle.hol_types.specs.TypeStore.{tree_of}
 use Rattle.hol_terms.specs.TermStore.{joined}

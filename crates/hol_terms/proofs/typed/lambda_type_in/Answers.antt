@@ -1,4 +1,4 @@
-use Rattle.std.proofs.Common.{◌≡◌, ◌∙◌}
+use Rattle.std.proofs.Common.{◌∙◌}
 use Rattle.hol_types.specs.Ty.{FunTy}
 use Rattle.hol_types.specs.TypeStore.{type_tree}
 use Rattle.hol_terms.specs.TermStore.{joined}

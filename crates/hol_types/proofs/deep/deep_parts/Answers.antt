@@ -1,4 +1,3 @@
-use Rattle.hol_types.specs.TypeStore.{HasType, joined}
 use Rattle.hol_types.proofs.ListLemmas.{all_permuted}
 use Rattle.hol_types.proofs.deep.deep_parts.Goals as goal
 

@@ -1,5 +1,4 @@
-use Rattle.std.proofs.Common.{◌≡◌, ◌∙◌, sym, ap, arith, refl, length, ◌<◌, List}
-use Rattle.std.specs.List.{AllByRecursion}
+use Rattle.std.proofs.Common.{◌≡◌, ◌∙◌, sym, arith, refl, length}
 use Rattle.hol_types.specs.Ty.{ConsTy}
 use Rattle.hol_types.specs.TypeStore.{joined, type_tree, trees_at, text_of}
 use Rattle.hol_types.specs.TypeSubst.{subst_tree}

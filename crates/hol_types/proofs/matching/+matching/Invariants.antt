@@ -1,4 +1,4 @@
-use Rattle.std.proofs.Common.{◌≡◌, ◌+◌, ◌*◌}
+use Rattle.std.proofs.Common.{◌+◌, ◌*◌}
 use Rattle.hol_types.specs.TypeStore.{joined}
 use Rattle.hol_types.specs.TypeSubst.{HasSubst, NamesOnce, subst_tree}
 use Rattle.hol_types.specs.TypeMatch.{IsLeast}

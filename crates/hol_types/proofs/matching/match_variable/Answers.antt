@@ -1,4 +1,4 @@
-use Rattle.std.proofs.Common.{◌≡◌, sym}
+use Rattle.std.proofs.Common.{sym}
 use Rattle.hol_types.specs.Matching.{new}
 use Rattle.hol_types.proofs.MatchLemmas.{given_before}
 use Rattle.hol_types.proofs.matching.match_variable.Goals as goal

@@ -1,4 +1,4 @@
-use Rattle.std.proofs.Common.{◌≡◌, ℕ, ◌<◌, List, [], ◌∷◌, ◌++◌, length, sym, ap, subst, ◌∙◌}
+use Rattle.std.proofs.Common.{◌≡◌, ◌<◌, [], ◌∷◌, length, sym, subst, ◌∙◌}
 use Rattle.std.proofs.lemmas.List.{nil_from_length}
 use Rattle.part_numbers.specs.Walk.{IsWalk, ahead}
 use Rattle.part_numbers.proofs.WalkLemmas.{walk_start, walk_end, walk_next, walk_skipped, walk_added, first_pushed, shorter_skip, shorter_add}

@@ -1,4 +1,4 @@
-use Rattle.std.proofs.Common.{◌≡◌, sym, ◌∙◌}
+use Rattle.std.proofs.Common.{sym, ◌∙◌}
 use Rattle.hol_types.proofs.TypeLemmas.{eqb_sound}
 use Rattle.std.proofs.lemmas.Bool.{eq-eqb}
 use Rattle.hol_terms.specs.TermStore.{term_tree}
