@@ -3,3 +3,8 @@ pub mod Kinds
 pub mod TermText
 pub mod Pieces
 pub mod Printed
+pub mod Shapes
+pub mod TermShape
+pub mod Given
+pub mod Under
+pub mod ReadsBack

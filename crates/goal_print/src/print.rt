@@ -1,10 +1,13 @@
 //! The text of a goal is written, piece by piece.
-ghost use Rattle.std.specs.Prelude.{◌≡◌, ◌++◌, OnOk, OnErr};
+ghost use Rattle.std.specs.Prelude.{◌≡◌, ℕ, ◌^◌, ◌≤◌, List, ◌++◌, OnOk, OnErr};
+ghost use Rattle.std.specs.List.{AllByRecursion};
 ghost use Rattle.hol_terms.specs.TermStore.{HasTerm, term_tree};
 ghost use Rattle.goal_text.specs.Names.{Constants};
-ghost use Rattle.goal_text.specs.ItemsIn.{IsProblem};
+ghost use Rattle.goal_text.specs.ItemsIn.{HasDeclared, IsProblem, IsRead, declared_in};
 ghost use Rattle.goal_print.specs.TermText.{goal_text};
 ghost use Rattle.goal_print.specs.Printed.{printed};
+ghost use Rattle.goal_print.specs.ReadsBack.{ReadsBack};
+ghost use Rattle.goal_print.specs.Under.{nested};
 ghost use Rattle.goal_print.specs.Pieces.{AppendsPart, KnowsSchematic};
 
 use crate::constants::schematic_names;
@@ -12,7 +15,7 @@ use crate::piece::Piece;
 use crate::terms::put_term;
 use crate::types::put_type;
 use crate::write::append_word;
-use goal_text::Problem;
+use goal_text::{Declared, Problem};
 use hol_terms::{Base, TermId};
 use hol_types::{Bytes, NameId};
 use std::alloc::{AllocError, Global};
@@ -45,7 +48,29 @@ fn append_goal(
     Ok(())
 }
 
-/// Appends the text of a problem's goal. Under the problem's declarations it reads as the same term.
+/// Appends the text of a goal under declared constants. Without memory a front part of it is appended.
+#[tactic(auto, using(crate::proofs::NestedLemmas::nested_few))]
+fn append_under(
+    alloc: Global,
+    base: &Base,
+    consts: &[Declared],
+    goal: TermId,
+    out: &mut Bytes,
+) -> Result<(), AllocError>
+    requires there { HasTerm base.now goal }
+    requires declared { AllByRecursion (HasDeclared base.now) consts.now }
+    ensures ok { OnOk result (out.new ≡ out.old ++ goal_text (declared_in base.now consts.now) (term_tree base.now goal)) }
+    ensures err { OnErr result (AppendsPart (goal_text (declared_in base.now consts.now) (term_tree base.now goal)) out.old out.new) }
+    ensures few { nested (term_tree base.now goal) ≤ 2 ^ 32 }
+{
+    let schematic = schematic_names(alloc, base, consts)?;
+    append_goal(alloc, base, &schematic, goal, out)?;
+    Ok(())
+}
+
+/// Appends the text of a problem's goal. Put as the goal behind the declarations and facts of a text that says the problem, it is
+/// read as the same term (`reads_back`), or refused because its lists are nested too deep, and for no other reason. Of the length
+/// of the whole text nothing is said.
 ///
 /// Right spines of `and` and `or` and left spines of `+` and `*` are one list, `=>` has two parts, quantifiers of one kind and
 /// lambdas within one another have one list of binders, and `(-> ..)` has its longest chain. A variable is `?v0`, `?v1`, .. by the
@@ -57,8 +82,13 @@ pub fn print_goal(alloc: Global, problem: &Problem, out: &mut Bytes) -> Result<(
     requires { IsProblem problem.now }
     ensures ok { OnOk result (out.new ≡ out.old ++ printed problem.now) }
     ensures err { OnErr result (AppendsPart (printed problem.now) out.old out.new) }
+    ensures reads_back { (text : List ℕ) (is : IsRead text problem.now) → ReadsBack is.said (printed problem.now) }
 {
-    let schematic = schematic_names(alloc, &problem.base, problem.consts.as_slice())?;
-    append_goal(alloc, &problem.base, &schematic, problem.goal, out)?;
-    Ok(())
+    append_under(
+        alloc,
+        &problem.base,
+        problem.consts.as_slice(),
+        problem.goal,
+        out,
+    )
 }
