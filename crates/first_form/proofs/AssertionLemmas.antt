@@ -8,7 +8,8 @@ use Rattle.hol_terms.specs.TermEq.{term_eq}
 use Rattle.hol_terms.specs.TermStore.{TermStore, HasTerm, TermsApart, term_tree}
 use Rattle.hol_terms.specs.Formula.{In}
 use Rattle.hol_terms.proofs.TermEqLemmas.{term_eq_refl, term_eq_sound}
-use Rattle.first_form.specs.Lexicon.{HaveFormulas, terms_at}
+use Rattle.goal_text.specs.Scope.{terms_at}
+use Rattle.goal_text.specs.Sentences.{HaveSentences}
 
 any_append : {A : Type 0} (f : A → Bool) (xs : List A) (y : A) → list_any f (xs ++ y ∷ []) ≡ (list_any f xs || f y)
 any_append f [] y = by (f y) refl
@@ -71,7 +72,7 @@ tree_same s apart t x there too = same_test (nat_eq t x) (term_eq (term_tree s t
     from : term_eq (term_tree s t) (term_tree s x) ≡ true → nat_eq t x ≡ true
     from h = ap (nat_eq t) (sym (apart t x there too (term_eq_sound (term_tree s t) (term_tree s x) h))) ∙ nat_refl t
 
-pub member_same : (s : TermStore) → TermsApart s → (t : ℕ) → HasTerm s t → (ids : List ℕ) → HaveFormulas s ids → list_any (nat_eq t) ids ≡ list_any (term_eq (term_tree s t)) (terms_at s ids)
+pub member_same : (s : TermStore) → TermsApart s → (t : ℕ) → HasTerm s t → (ids : List ℕ) → HaveSentences s ids → list_any (nat_eq t) ids ≡ list_any (term_eq (term_tree s t)) (terms_at s ids)
 member_same s apart t there [] all = refl
 member_same s apart t there (x ∷ ids) all =
     let e = tree_same s apart t x there all.0.there in

@@ -9,28 +9,29 @@ use Rattle.sexp.specs.Tree.{Tree, Trees, AtomTree, QuotedTree, ListTree, no_tree
 use Rattle.first_form.specs.declared.failure.FormFailure.{FormFailure}
 use Rattle.first_form.specs.declared.failure.FormFailure.TheVariants as failures
 use Rattle.first_form.specs.declared.lexicon.Lexicon.{Lexicon}
-use Rattle.first_form.specs.declared.lexicon.Spelling.{Spelling}
 use Rattle.first_form.specs.Read.{◌>>=◌, Fails}
 use Rattle.hol_terms.specs.TermStore.{TermStore, Keeps, term_tree}
-use Rattle.first_form.specs.Lexicon.{IsGroundFormula, HaveFormulas, IsLexicon, atom_number, names_of, terms_at}
+use Rattle.goal_text.specs.Scope.{terms_at}
+use Rattle.goal_text.specs.Sentences.{HaveSentences, IsSentence}
+use Rattle.first_form.specs.Lexicon.{IsLexicon, atom_number, names_of}
 use Rattle.first_form.proofs.LexiconLemmas.{atom_read, terms_front, terms_kept}
 use Rattle.first_form.specs.Trees.{is_atom, parts_of, text_of}
 use Rattle.first_form.specs.Formulas.{formula_of, formulas_of, built, implied, implication_of}
 
-pub negation-formula : (a : Term) → IsGroundFormula a → IsGroundFormula (negation a)
+pub negation-formula : (a : Term) → IsSentence a → IsSentence (negation a)
 negation-formula a is = record {
   formula = record { typed = (tt, is.formula.typed, rw is.formula.bool refl); closed = (tt, is.formula.closed); bool = refl };
-  ground = is.ground;
+  variables = is.variables;
 }
 
-pub implication-formula : (a b : Term) → IsGroundFormula a → IsGroundFormula b → IsGroundFormula (implication a b)
+pub implication-formula : (a b : Term) → IsSentence a → IsSentence b → IsSentence (implication a b)
 implication-formula a b is too = record {
   formula = record {
     typed = ((tt, is.formula.typed, rw is.formula.bool refl), too.formula.typed, rw too.formula.bool refl);
     closed = ((tt, is.formula.closed), too.formula.closed);
     bool = refl;
   };
-  ground = rw (is.ground, too.ground) refl;
+  variables = rw (is.variables, too.variables) refl;
 }
 
 -- the conclusion under the premises
@@ -52,33 +53,33 @@ implication-last a (x ∷ xs) c = ap (λ t. Some (implication a t)) (implied-las
 
 -- an atom
 pub formula-atom : (s : TermStore) (lexicon : Lexicon) (tree : Tree) (at : ℕ) (text : List ℕ) → IsLexicon s lexicon → tree ≡ AtomTree at text
-    → formula_of lexicon.spelling (names_of lexicon.constants) tree ≡ option_map (λ t. term_tree s t) (atom_number lexicon text)
+    → formula_of (names_of lexicon.constants) tree ≡ option_map (λ t. term_tree s t) (atom_number lexicon text)
 unfolding formula_of
 formula-atom s lexicon tree at text is e = rw e (sym (atom_read s lexicon text is))
 
 -- a list
-module _ (spelling : Spelling) (names : List (List ℕ)) (tree head : Tree) (trees rest : Trees) (at : ℕ) (is : tree ≡ ListTree at trees) where
-  pub formula-list : trees ≡ more_trees head rest → formula_of spelling names tree ≡ (formulas_of spelling names rest >>= λ parts. built (text_of head) parts)
+module _ (names : List (List ℕ)) (tree head : Tree) (trees rest : Trees) (at : ℕ) (is : tree ≡ ListTree at trees) where
+  pub formula-list : trees ≡ more_trees head rest → formula_of names tree ≡ (formulas_of names rest >>= λ parts. built (text_of head) parts)
   unfolding formula_of
   formula-list e = rw (is, e) refl
 
-  pub formula-empty : trees ≡ no_trees → formula_of spelling names tree ≡ None
+  pub formula-empty : trees ≡ no_trees → formula_of names tree ≡ None
   unfolding formula_of
   formula-empty e = rw (is, e) refl
 
-  pub formula-fails : (x : FormFailure) → trees ≡ more_trees head rest → Fails x (formulas_of spelling names rest) → Fails x (formula_of spelling names tree)
+  pub formula-fails : (x : FormFailure) → trees ≡ more_trees head rest → Fails x (formulas_of names rest) → Fails x (formula_of names tree)
   formula-fails failures.Memory e h = tt
   formula-fails failures.Refused e h = formula-list e ∙ rw h refl
 
-  pub formula-built : (word : List ℕ) (parts : List Term) → trees ≡ more_trees head rest → word ≡ text_of head → formulas_of spelling names rest ≡ Some parts → formula_of spelling names tree ≡ built word parts
+  pub formula-built : (word : List ℕ) (parts : List Term) → trees ≡ more_trees head rest → word ≡ text_of head → formulas_of names rest ≡ Some parts → formula_of names tree ≡ built word parts
   formula-built word parts e w h = formula-list e ∙ rw (h, w) refl
 
 -- a tree that is neither an atom nor a list
-pub formula-other : (spelling : Spelling) (names : List (List ℕ)) (tree : Tree) → is_atom tree ≡ false → parts_of tree ≡ None → formula_of spelling names tree ≡ None
+pub formula-other : (names : List (List ℕ)) (tree : Tree) → is_atom tree ≡ false → parts_of tree ≡ None → formula_of names tree ≡ None
 unfolding formula_of
-formula-other spelling names (AtomTree at text) h k = absurd (true≢false h)
-formula-other spelling names (QuotedTree at text) h k = refl
-formula-other spelling names (ListTree at parts) h k = absurd (none-some parts (sym k))
+formula-other names (AtomTree at text) h k = absurd (true≢false h)
+formula-other names (QuotedTree at text) h k = refl
+formula-other names (ListTree at parts) h k = absurd (none-some parts (sym k))
 
 -- the formulas read so far, and those still to read
 abbrev pub with_front : List Term → Option (List Term) → Option (List Term)
@@ -88,27 +89,27 @@ regroup : (front : List Term) (t : Term) (read : Option (List Term)) → with_fr
 regroup front t (Some ts) = ap Some (simp append_assoc)
 regroup front t None = refl
 
-module _ (spelling : Spelling) (names : List (List ℕ)) (front : List Term) (trees : Trees) (total : Option (List Term)) (so_far : with_front front (formulas_of spelling names trees) ≡ total) where
-  pub parts_step : (tree : Tree) (rest : Trees) (t : Term) → trees ≡ more_trees tree rest → formula_of spelling names tree ≡ Some t → with_front (front ++ t ∷ []) (formulas_of spelling names rest) ≡ total
+module _ (names : List (List ℕ)) (front : List Term) (trees : Trees) (total : Option (List Term)) (so_far : with_front front (formulas_of names trees) ≡ total) where
+  pub parts_step : (tree : Tree) (rest : Trees) (t : Term) → trees ≡ more_trees tree rest → formula_of names tree ≡ Some t → with_front (front ++ t ∷ []) (formulas_of names rest) ≡ total
   unfolding formulas_of
   parts_step tree rest t e h =
-      let one : with_front front (formulas_of spelling names (more_trees tree rest)) ≡ with_front (front ++ t ∷ []) (formulas_of spelling names rest) = rw h (regroup front t (formulas_of spelling names rest)) in
-      sym one ∙ ap (λ ts. with_front front (formulas_of spelling names ts)) (sym e) ∙ so_far
+      let one : with_front front (formulas_of names (more_trees tree rest)) ≡ with_front (front ++ t ∷ []) (formulas_of names rest) = rw h (regroup front t (formulas_of names rest)) in
+      sym one ∙ ap (λ ts. with_front front (formulas_of names ts)) (sym e) ∙ so_far
 
-  pub parts_fail : (x : FormFailure) (tree : Tree) (rest : Trees) → trees ≡ more_trees tree rest → Fails x (formula_of spelling names tree) → Fails x total
+  pub parts_fail : (x : FormFailure) (tree : Tree) (rest : Trees) → trees ≡ more_trees tree rest → Fails x (formula_of names tree) → Fails x total
   unfolding formulas_of
   parts_fail failures.Memory tree rest e h = tt
   parts_fail failures.Refused tree rest e h =
-      let none : with_front front (formulas_of spelling names (more_trees tree rest)) ≡ None = rw h refl in
-      sym so_far ∙ ap (λ ts. with_front front (formulas_of spelling names ts)) e ∙ none
+      let none : with_front front (formulas_of names (more_trees tree rest)) ≡ None = rw h refl in
+      sym so_far ∙ ap (λ ts. with_front front (formulas_of names ts)) e ∙ none
 
   pub parts_done : trees ≡ no_trees → total ≡ Some front
   unfolding formulas_of
-  parts_done e = sym so_far ∙ ap (λ ts. with_front front (formulas_of spelling names ts)) e ∙ ap Some (append-nil front)
+  parts_done e = sym so_far ∙ ap (λ ts. with_front front (formulas_of names ts)) e ∙ ap Some (append-nil front)
 
 -- the last premise, moved over
 module _ (s u : TermStore) (total : Option Term) (ts : List ℕ) (a c t : ℕ) where
-  pub under_step : Keeps s u → HaveFormulas s ts → total ≡ Some (under (terms_at s (ts ++ a ∷ [])) (term_tree s c)) → Some (implication (term_tree s a) (term_tree s c)) ≡ Some (term_tree u t)
+  pub under_step : Keeps s u → HaveSentences s ts → total ≡ Some (under (terms_at s (ts ++ a ∷ [])) (term_tree s c)) → Some (implication (term_tree s a) (term_tree s c)) ≡ Some (term_tree u t)
       → total ≡ Some (under (terms_at u ts) (term_tree u t))
   under_step k all so_far made =
       let front = terms_front s ts a in

@@ -11,11 +11,11 @@ use Rattle.hol_types.specs.Ty.{BoolTy}
 use Rattle.hol_terms.specs.Term.{Term, ConstTm}
 use Rattle.hol_terms.specs.TermStore.{TermStore, Keeps, term_tree}
 use Rattle.first_form.specs.declared.lexicon.Lexicon.{Lexicon}
-use Rattle.first_form.specs.declared.lexicon.Spelling.{Spelling}
-use Rattle.first_form.specs.declared.lexicon.Spelling.TheVariants.{Dollar}
 use Rattle.first_form.specs.Formulas.{spelled, constant_of, atom_of}
-use Rattle.first_form.specs.GoalForm.{is_declared}
-use Rattle.first_form.specs.Lexicon.{IsGroundFormula, HasFormula, HaveFormulas, IsNumberOf, AreConstants, IsLexicon, names_of, number_of, atom_number, terms_at}
+use Rattle.first_form.specs.Source.{is_declared}
+use Rattle.goal_text.specs.Scope.{terms_at}
+use Rattle.goal_text.specs.Sentences.{HasSentence, HaveSentences, IsSentence}
+use Rattle.first_form.specs.Lexicon.{IsNumberOf, AreConstants, IsLexicon, names_of, number_of, atom_number}
 
 module _ {A B X : Type 0} (view : A → B) where
   abbrev pub seen : List (A × X) → List (B × X)
@@ -75,17 +75,17 @@ dollar_same x y = same_test (bytes_eq (x ++ dollar) (y ++ dollar)) (bytes_eq x y
 
 -- a name with `$` behind it
 pub number-dollar : (constants : List (List ℕ × ℕ)) (text : List ℕ) → bytes_eq (drop (length text - 1) text) dollar ≡ true
-    → number_of Dollar constants text ≡ lookup (bytes_eq (take (length text - 1) text)) constants
+    → number_of constants text ≡ lookup (bytes_eq (take (length text - 1) text)) constants
 number-dollar constants text h =
     let name = take (length text - 1) text in
     let e = (bytes_eq-Decides (drop (length text - 1) text) dollar).0 h in
     let whole : name ++ dollar ≡ text = ap (λ z. name ++ z) (sym e) ∙ take-append-drop (length text - 1) text in
-    let P : List ℕ → Type 0 = λ t. lookup (λ n. bytes_eq t (spelled Dollar n)) constants ≡ lookup (bytes_eq name) constants in
+    let P : List ℕ → Type 0 = λ t. lookup (λ n. bytes_eq t (spelled n)) constants ≡ lookup (bytes_eq name) constants in
     subst P whole (lookup_same (λ n. bytes_eq (name ++ dollar) (n ++ dollar)) (bytes_eq name) (λ n. dollar_same name n) constants)
 
 pub number-bare : (constants : List (List ℕ × ℕ)) (text : List ℕ) → bytes_eq (drop (length text - 1) text) dollar ≡ false
-    → number_of Dollar constants text ≡ None
-number-bare constants text h = lookup_none (λ n. bytes_eq text (spelled Dollar n)) (λ n. by n (bytes_eq text (n ++ dollar)) refl) constants
+    → number_of constants text ≡ None
+number-bare constants text h = lookup_none (λ n. bytes_eq text (spelled n)) (λ n. by n (bytes_eq text (n ++ dollar)) refl) constants
   where
     by : (n : List ℕ) (b : Bool) → bytes_eq text (n ++ dollar) ≡ b → bytes_eq text (n ++ dollar) ≡ false
     by n true e =
@@ -95,52 +95,52 @@ number-bare constants text h = lookup_none (λ n. bytes_eq text (spelled Dollar 
     by n false e = e
 
 -- the term that an atom is read as
-constant_read : (s : TermStore) (spelling : Spelling) (constants : List (List ℕ × ℕ)) (text : List ℕ) → AreConstants s constants
-    → option_map (λ t. term_tree s t) (number_of spelling constants text) ≡ constant_of spelling (names_of constants) text
+constant_read : (s : TermStore) (constants : List (List ℕ × ℕ)) (text : List ℕ) → AreConstants s constants
+    → option_map (λ t. term_tree s t) (number_of constants text) ≡ constant_of (names_of constants) text
 unfolding constant_of
-constant_read s spelling [] text all = refl
-constant_read s spelling (c ∷ cs) text all = by (bytes_eq text (spelled spelling c.0)) refl (constant_read s spelling cs text all.1)
+constant_read s [] text all = refl
+constant_read s (c ∷ cs) text all = by (bytes_eq text (spelled c.0)) refl (constant_read s cs text all.1)
   where
-    by : (b : Bool) → bytes_eq text (spelled spelling c.0) ≡ b → option_map (λ t. term_tree s t) (number_of spelling cs text) ≡ constant_of spelling (names_of cs) text
-        → option_map (λ t. term_tree s t) (number_of spelling (c ∷ cs) text) ≡ constant_of spelling (names_of (c ∷ cs)) text
+    by : (b : Bool) → bytes_eq text (spelled c.0) ≡ b → option_map (λ t. term_tree s t) (number_of cs text) ≡ constant_of (names_of cs) text
+        → option_map (λ t. term_tree s t) (number_of (c ∷ cs) text) ≡ constant_of (names_of (c ∷ cs)) text
     by true e r = rw e (ap Some all.0.tree)
     by false e r = rw e r
 
 pub atom_read : (s : TermStore) (lexicon : Lexicon) (text : List ℕ) → IsLexicon s lexicon
-    → option_map (λ t. term_tree s t) (atom_number lexicon text) ≡ atom_of lexicon.spelling (names_of lexicon.constants) text
+    → option_map (λ t. term_tree s t) (atom_number lexicon text) ≡ atom_of (names_of lexicon.constants) text
 unfolding atom_of
 atom_read s lexicon text is = by (bytes_eq text (codes "false")) refl
   where
-    by : (b : Bool) → bytes_eq text (codes "false") ≡ b → option_map (λ t. term_tree s t) (atom_number lexicon text) ≡ atom_of lexicon.spelling (names_of lexicon.constants) text
+    by : (b : Bool) → bytes_eq text (codes "false") ≡ b → option_map (λ t. term_tree s t) (atom_number lexicon text) ≡ atom_of (names_of lexicon.constants) text
     by true e = rw e (ap Some is.falsity.tree)
-    by false e = rw e (constant_read s lexicon.spelling lexicon.constants text is.constants)
+    by false e = rw e (constant_read s lexicon.constants text is.constants)
 
-constant-formula : (s : TermStore) (t : ℕ) (name : List ℕ) → IsNumberOf s t (ConstTm name BoolTy) → HasFormula s t
+constant-formula : (s : TermStore) (t : ℕ) (name : List ℕ) → IsNumberOf s t (ConstTm name BoolTy) → HasSentence s t
 constant-formula s t name is =
-    let P : Term → Type 0 = IsGroundFormula in
-    record { there = is.there; formula = subst P (sym is.tree) (record { formula = record { typed = tt; closed = tt; bool = refl }; ground = refl }) }
+    let P : Term → Type 0 = IsSentence in
+    record { there = is.there; sentence = subst P (sym is.tree) (record { formula = record { typed = tt; closed = tt; bool = refl }; variables = refl }) }
 
-number-formula : (s : TermStore) (spelling : Spelling) (constants : List (List ℕ × ℕ)) (text : List ℕ) (t : ℕ) → AreConstants s constants
-    → number_of spelling constants text ≡ Some t → HasFormula s t
-number-formula s spelling [] text t all h = absurd (none-some _ h)
-number-formula s spelling (c ∷ cs) text t all h = by (bytes_eq text (spelled spelling c.0)) refl (λ k. number-formula s spelling cs text t all.1 k)
+number-formula : (s : TermStore) (constants : List (List ℕ × ℕ)) (text : List ℕ) (t : ℕ) → AreConstants s constants
+    → number_of constants text ≡ Some t → HasSentence s t
+number-formula s [] text t all h = absurd (none-some _ h)
+number-formula s (c ∷ cs) text t all h = by (bytes_eq text (spelled c.0)) refl (λ k. number-formula s cs text t all.1 k)
   where
-    by : (b : Bool) → bytes_eq text (spelled spelling c.0) ≡ b → (number_of spelling cs text ≡ Some t → HasFormula s t) → HasFormula s t
+    by : (b : Bool) → bytes_eq text (spelled c.0) ≡ b → (number_of cs text ≡ Some t → HasSentence s t) → HasSentence s t
     by true e r =
-        let same : Some c.1 ≡ Some t = sym (ap (λ b. cond b (Some c.1) (number_of spelling cs text)) e) ∙ h in
-        let P : ℕ → Type 0 = HasFormula s in
+        let same : Some c.1 ≡ Some t = sym (ap (λ b. cond b (Some c.1) (number_of cs text)) e) ∙ h in
+        let P : ℕ → Type 0 = HasSentence s in
         subst P (same_Some _ _ same) (constant-formula s c.1 c.0 all.0)
-    by false e r = r (sym (ap (λ b. cond b (Some c.1) (number_of spelling cs text)) e) ∙ h)
+    by false e r = r (sym (ap (λ b. cond b (Some c.1) (number_of cs text)) e) ∙ h)
 
-pub atom-formula : (s : TermStore) (lexicon : Lexicon) (text : List ℕ) (t : ℕ) → IsLexicon s lexicon → atom_number lexicon text ≡ Some t → HasFormula s t
+pub atom-formula : (s : TermStore) (lexicon : Lexicon) (text : List ℕ) (t : ℕ) → IsLexicon s lexicon → atom_number lexicon text ≡ Some t → HasSentence s t
 atom-formula s lexicon text t is h = by (bytes_eq text (codes "false")) refl
   where
-    by : (b : Bool) → bytes_eq text (codes "false") ≡ b → HasFormula s t
+    by : (b : Bool) → bytes_eq text (codes "false") ≡ b → HasSentence s t
     by true e =
-        let same : Some lexicon.falsity ≡ Some t = sym (ap (λ b. if b then Some lexicon.falsity else number_of lexicon.spelling lexicon.constants text) e) ∙ h in
-        let P : ℕ → Type 0 = HasFormula s in
+        let same : Some lexicon.falsity ≡ Some t = sym (ap (λ b. if b then Some lexicon.falsity else number_of lexicon.constants text) e) ∙ h in
+        let P : ℕ → Type 0 = HasSentence s in
         subst P (same_Some _ _ same) (constant-formula s lexicon.falsity (codes "false") is.falsity)
-    by false e = number-formula s lexicon.spelling lexicon.constants text t is.constants (sym (ap (λ b. if b then Some lexicon.falsity else number_of lexicon.spelling lexicon.constants text) e) ∙ h)
+    by false e = number-formula s lexicon.constants text t is.constants (sym (ap (λ b. if b then Some lexicon.falsity else number_of lexicon.constants text) e) ∙ h)
 
 -- what is kept keeps its tree
 pub number_kept : {s u : TermStore} {t : ℕ} {x : Term} → Keeps s u → IsNumberOf s t x → IsNumberOf u t x
@@ -158,30 +158,30 @@ lexicon_kept {s = s} {u = u} {lexicon = lexicon} k is = record {
   constants = constants_kept s u k lexicon.constants is.constants;
 }
 
-pub formula_kept : {s u : TermStore} {t : ℕ} → Keeps s u → HasFormula s t → HasFormula u t
+pub formula_kept : {s u : TermStore} {t : ℕ} → Keeps s u → HasSentence s t → HasSentence u t
 formula_kept {s = s} {u = u} {t = t} k is =
-    let P : Term → Type 0 = IsGroundFormula in
-    record { there = k.terms t is.there; formula = subst P (sym (k.trees t is.there)) is.formula }
+    let P : Term → Type 0 = IsSentence in
+    record { there = k.terms t is.there; sentence = subst P (sym (k.trees t is.there)) is.sentence }
 
-pub formulas_kept : (s u : TermStore) → Keeps s u → (ts : List ℕ) → HaveFormulas s ts → HaveFormulas u ts
+pub formulas_kept : (s u : TermStore) → Keeps s u → (ts : List ℕ) → HaveSentences s ts → HaveSentences u ts
 formulas_kept s u k [] all = tt
 formulas_kept s u k (t ∷ ts) all = (formula_kept k all.0, formulas_kept s u k ts all.1)
 
-pub terms_kept : (s u : TermStore) → Keeps s u → (ts : List ℕ) → HaveFormulas s ts → terms_at u ts ≡ terms_at s ts
+pub terms_kept : (s u : TermStore) → Keeps s u → (ts : List ℕ) → HaveSentences s ts → terms_at u ts ≡ terms_at s ts
 terms_kept s u k [] all = refl
 terms_kept s u k (t ∷ ts) all = let e = k.trees t all.0.there in let f = terms_kept s u k ts all.1 in cc
 
 -- one more
-pub terms_pushed : (s u : TermStore) (ts : List ℕ) (t : ℕ) → Keeps s u → HaveFormulas s ts → terms_at u (ts ++ t ∷ []) ≡ terms_at s ts ++ term_tree u t ∷ []
+pub terms_pushed : (s u : TermStore) (ts : List ℕ) (t : ℕ) → Keeps s u → HaveSentences s ts → terms_at u (ts ++ t ∷ []) ≡ terms_at s ts ++ term_tree u t ∷ []
 terms_pushed s u [] t k all = refl
 terms_pushed s u (x ∷ ts) t k all = let e = k.trees x all.0.there in let f = terms_pushed s u ts t k all.1 in rw (e, f) refl
 
-pub formulas_pushed : (s u : TermStore) (ts : List ℕ) (t : ℕ) → Keeps s u → HaveFormulas s ts → HasFormula u t → HaveFormulas u (ts ++ t ∷ [])
+pub formulas_pushed : (s u : TermStore) (ts : List ℕ) (t : ℕ) → Keeps s u → HaveSentences s ts → HasSentence u t → HaveSentences u (ts ++ t ∷ [])
 formulas_pushed s u [] t k all h = (h, tt)
 formulas_pushed s u (x ∷ ts) t k all h = (formula_kept k all.0, formulas_pushed s u ts t k all.1 h)
 
 -- one less
-pub formulas_front : (s : TermStore) (ts : List ℕ) (t : ℕ) → HaveFormulas s (ts ++ t ∷ []) → HaveFormulas s ts × HasFormula s t
+pub formulas_front : (s : TermStore) (ts : List ℕ) (t : ℕ) → HaveSentences s (ts ++ t ∷ []) → HaveSentences s ts × HasSentence s t
 formulas_front s [] t all = (tt, all.0)
 formulas_front s (x ∷ ts) t all = let r = formulas_front s ts t all.1 in ((all.0, r.0), r.1)
 

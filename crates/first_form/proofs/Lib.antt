@@ -1,7 +1,7 @@
 pub mod LexiconLemmas
+pub mod PropositionLemmas
 pub mod FormulaLemmas
-pub mod GoalLemmas
-pub mod PrintLemmas
+pub mod ForestLemmas
 pub mod AssertionLemmas
 pub mod ProofLemmas
 pub mod StepLemmas

@@ -19,9 +19,10 @@ use Rattle.proof_plan.specs.Claims.{open_hyps}
 use Rattle.proof_plan.specs.OpenHypotheses.{hyps_by, hyps_of}
 use Rattle.proof_plan.specs.IsPlan.{IsPlan, IsNode, IsFormulaIn, IsAssertionIn, IsVariableIn, IsDefinitionIn, StatesAssertion}
 use Rattle.first_form.specs.declared.setting.Setting.{Setting}
-use Rattle.first_form.specs.Lexicon.{HasFormula, HaveFormulas}
+use Rattle.goal_text.specs.Scope.{terms_at}
+use Rattle.goal_text.specs.Sentences.{HasSentence, HaveSentences}
 use Rattle.first_form.specs.ProofPlan.{IsAbout, last_claim}
-use Rattle.first_form.specs.Setting.{IsSetting, problem_of}
+use Rattle.first_form.specs.Setting.{IsSetting}
 use Rattle.first_form.specs.Steps.{AreSteps, IsFirstRule, IsStep}
 use Rattle.first_form.proofs.LexiconLemmas.{formula_kept, formulas_kept, terms_kept}
 
@@ -59,15 +60,15 @@ no_goal_rule r g (inr (inl e)) = absurd (cc)
 no_goal_rule r g (inr (inr e)) = absurd (cc)
 
 module _ (p : PlanValue) where
-  formula_in : (t : ℕ) → HasFormula p.store t → IsFormulaIn p t
-  formula_in t is = record { there = is.there; formula = is.formula.formula }
+  formula_in : (t : ℕ) → HasSentence p.store t → IsFormulaIn p t
+  formula_in t is = record { there = is.there; formula = is.sentence.formula }
 
-  assertion_in : (t : ℕ) → HasFormula p.store t → IsAssertionIn p t
+  assertion_in : (t : ℕ) → HasSentence p.store t → IsAssertionIn p t
   assertion_in t is = record {
     there = is.there;
     context = record {
-      formula = is.formula.formula;
-      given = λ k n ty member. let P : List Term → Type 0 = In _ in absurd (subst P is.formula.ground member);
+      formula = is.sentence.formula;
+      given = λ k n ty member. let P : List Term → Type 0 = In _ in absurd (subst P is.sentence.variables member);
     };
   }
 
@@ -111,16 +112,16 @@ module _ (p : PlanValue) where
         let e : 0 + k ≡ k = omega arith in
         node_is k (node_at p k) (subst P e (step_at p.store p.parts.assertions 0 p.nodes steps k there))
 
-    pub plan_is : HaveFormulas p.store p.parts.facts → HasFormula p.store p.parts.goal → HaveFormulas p.store p.parts.assertions → 0 < length p.nodes → length p.nodes < 400001
+    pub plan_is : HaveSentences p.store p.parts.facts → HasSentence p.store p.parts.goal → HaveSentences p.store p.parts.assertions → 0 < length p.nodes → length p.nodes < 400001
         → claim_of p (length p.nodes - 1) ≡ false_tm → p.definitions ≡ [] → p.parts.defs ≡ [] → IsPlan p
     plan_is facts goal given some few root none no_defs =
         let D : List _ → Type 0 = All (IsDefinitionIn p) in
         record {
           some = some;
           few = few;
-          facts = All-weaker (HasFormula p.store) (IsFormulaIn p) formula_in p.parts.facts (All-from_recursion (HasFormula p.store) p.parts.facts facts);
+          facts = All-weaker (HasSentence p.store) (IsFormulaIn p) formula_in p.parts.facts (All-from_recursion (HasSentence p.store) p.parts.facts facts);
           goal = formula_in p.parts.goal goal;
-          assertions = All-weaker (HasFormula p.store) (IsAssertionIn p) assertion_in p.parts.assertions (All-from_recursion (HasFormula p.store) p.parts.assertions given);
+          assertions = All-weaker (HasSentence p.store) (IsAssertionIn p) assertion_in p.parts.assertions (All-from_recursion (HasSentence p.store) p.parts.assertions given);
           lifted = none ∙ sym no_defs;
           definitions = subst D (sym none) (All-nil (IsDefinitionIn p));
           nodes = nodes_are;
@@ -149,20 +150,20 @@ module _ (setting : Setting) (is : IsSetting setting) (u : TermStore) (keeps : K
       let root : term_tree u (last_claim nodes) ≡ false_tm = term_eq_sound (term_tree u (last_claim nodes)) false_tm tests.0 in
       let few : length nodes < 400001 = below_limit (length nodes) tests.1 in
       let steps_in : AreSteps p.store p.parts.assertions 0 p.nodes = rw (store, given, made) steps in
-      let facts_in : HaveFormulas p.store p.parts.facts = rw (store, facts) (formulas_kept setting.base u keeps setting.facts is.facts) in
-      let goal_in : HasFormula p.store p.parts.goal = rw (store, goal) (formula_kept keeps is.goal) in
-      let given_in : HaveFormulas p.store p.parts.assertions = rw (store, given) (formulas_kept setting.base u keeps setting.assertions is.source.assertions_are) in
+      let facts_in : HaveSentences p.store p.parts.facts = rw (store, facts) (formulas_kept setting.base u keeps setting.facts is.facts) in
+      let goal_in : HasSentence p.store p.parts.goal = rw (store, goal) (formula_kept keeps is.goal) in
+      let given_in : HaveSentences p.store p.parts.assertions = rw (store, given) (formulas_kept setting.base u keeps setting.assertions is.source.assertions_are) in
       let root_in : claim_of p (length p.nodes - 1) ≡ false_tm = rw (store, made) root in
       plan_is p steps_in facts_in goal_in given_in (rw made some) (rw made few) root_in none no_defs
 
-  pub made_about : IsAbout (problem_of setting) p
+  pub made_about : IsAbout (terms_at setting.base setting.facts) (term_tree setting.base setting.goal) p
   made_about =
       let f = terms_kept setting.base u keeps setting.facts is.facts in
       let g = keeps.trees setting.goal is.goal.there in
       let a = terms_kept setting.base u keeps setting.assertions is.source.assertions_are ∙ is.assertions in
       record {
-        facts = rw (store, facts) f;
-        goal = rw (store, goal) g;
+        facts_are = rw (store, facts) f;
+        goal_is = rw (store, goal) g;
         assertions = rw (store, given) a;
         definitions = none;
         symbols = no_defs;

@@ -8,11 +8,11 @@ use Rattle.sexp.specs.Tree.{Tree, Trees, AtomTree, QuotedTree, ListTree, no_tree
 use Rattle.proof_plan.specs.declared.rule.Rule.{Rule}
 use Rattle.first_form.specs.declared.failure.FormFailure.{FormFailure}
 use Rattle.first_form.specs.declared.failure.FormFailure.TheVariants as failures
-use Rattle.first_form.specs.declared.lexicon.Spelling.TheVariants.{Dollar}
 use Rattle.first_form.specs.Read.{◌>>=◌, Fails}
 use Rattle.first_form.specs.Trees.{is_empty, parts_of, text_of}
 use Rattle.first_form.specs.Formulas.{formula_of}
-use Rattle.first_form.specs.ProofForm.{Proof, Proofs, Step, no_proofs, more_proofs, Source, count, fits, step, rule_of, proof_of, premises_of, size, sizes}
+use Rattle.first_form.specs.ProofForm.{Proof, Proofs, Step, no_proofs, more_proofs, count, fits, step, rule_of, proof_of, premises_of, size, sizes}
+use Rattle.first_form.specs.Source.{Source}
 use Rattle.first_form.specs.ProofNodes.{ProofNode, node, roots, nodes_from, nodes_from_all}
 use Rattle.first_form.specs.Steps.{nodes_with, premises_with}
 
@@ -100,7 +100,7 @@ module _ (source : Source) (before : List ProofNode) (tree head : Tree) (trees r
   unfolding proof_of
   proof-empty e = rw (is, e) refl
 
-  proof-list : trees ≡ more_trees head rest → proof_of source tree ≡ (rule_of (text_of head) >>= λ rule. premises_of source rest >>= λ both. formula_of Dollar source.consts both.1 >>= λ claim. step source at rule both.0 claim)
+  proof-list : trees ≡ more_trees head rest → proof_of source tree ≡ (rule_of (text_of head) >>= λ rule. premises_of source rest >>= λ both. formula_of source.consts both.1 >>= λ claim. step source at rule both.0 claim)
   unfolding proof_of
   proof-list e = rw (is, e) refl
 
@@ -125,33 +125,33 @@ module _ (source : Source) (before : List ProofNode) (tree head : Tree) (trees r
           by None i = absurd (none-some _ (sym (ap (option_map (premises_with before [])) i) ∙ read))
           by (Some both) i = (both, i, same_Some _ _ (sym (ap (option_map (premises_with before [])) i) ∙ read))
 
-      pub proof-claim : (x : FormFailure) → Fails x (formula_of Dollar source.consts last) → Fails x (option_map (nodes_with before) (proof_of source tree))
+      pub proof-claim : (x : FormFailure) → Fails x (formula_of source.consts last) → Fails x (option_map (nodes_with before) (proof_of source tree))
       proof-claim failures.Memory h = tt
       proof-claim failures.Refused h =
           let b = both_of in
           let e = proof-list whole in
-          let none : formula_of Dollar source.consts b.0.1 ≡ None = ap (λ t. formula_of Dollar source.consts t.1) b.2 ∙ h in
+          let none : formula_of source.consts b.0.1 ≡ None = ap (λ t. formula_of source.consts t.1) b.2 ∙ h in
           let i = b.1 in
           rw (e, named, i, none) refl
 
       fits_same : (claim : Term) → fits source.assertions rule (count both_of.0.0) claim ≡ fits source.assertions rule (length numbers) claim
       fits_same claim = ap (λ n. fits source.assertions rule n claim) (sym (roots_long (length before) both_of.0.0) ∙ ap (λ t. length t.0.1) both_of.2)
 
-      pub proof-unfit : (claim : Term) → formula_of Dollar source.consts last ≡ Some claim → fits source.assertions rule (length numbers) claim ≡ false → option_map (nodes_with before) (proof_of source tree) ≡ None
+      pub proof-unfit : (claim : Term) → formula_of source.consts last ≡ Some claim → fits source.assertions rule (length numbers) claim ≡ false → option_map (nodes_with before) (proof_of source tree) ≡ None
       proof-unfit claim f h =
           let b = both_of in
           let e = proof-list whole in
-          let g : formula_of Dollar source.consts b.0.1 ≡ Some claim = ap (λ t. formula_of Dollar source.consts t.1) b.2 ∙ f in
+          let g : formula_of source.consts b.0.1 ≡ Some claim = ap (λ t. formula_of source.consts t.1) b.2 ∙ f in
           let unfit = fits_same claim ∙ h in
           let i = b.1 in
           rw (e, named, i, g, unfit) refl
 
-      pub proof-step : (claim : Term) → formula_of Dollar source.consts last ≡ Some claim → fits source.assertions rule (length numbers) claim ≡ true → option_map (nodes_with before) (proof_of source tree) ≡ Some (nodes ++ node at rule numbers claim ∷ [])
+      pub proof-step : (claim : Term) → formula_of source.consts last ≡ Some claim → fits source.assertions rule (length numbers) claim ≡ true → option_map (nodes_with before) (proof_of source tree) ≡ Some (nodes ++ node at rule numbers claim ∷ [])
       unfolding nodes_from
       proof-step claim f h =
           let b = both_of in
           let e = proof-list whole in
-          let g : formula_of Dollar source.consts b.0.1 ≡ Some claim = ap (λ t. formula_of Dollar source.consts t.1) b.2 ∙ f in
+          let g : formula_of source.consts b.0.1 ≡ Some claim = ap (λ t. formula_of source.consts t.1) b.2 ∙ f in
           let fit = fits_same claim ∙ h in
           let i = b.1 in
           let nodes_are : before ++ nodes_from_all (length before) b.0.0 ≡ nodes = ap (λ t. t.0.0) b.2 in

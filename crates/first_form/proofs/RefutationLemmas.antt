@@ -11,14 +11,13 @@ use Rattle.proof_plan.specs.PlanValue.{no_node}
 use Rattle.sexp.specs.Tree.{Tree, Trees}
 use Rattle.first_form.specs.declared.failure.FormFailure.{FormFailure}
 use Rattle.first_form.specs.declared.failure.FormFailure.TheVariants as failures
-use Rattle.first_form.specs.declared.setting.Setting.{Setting}
-use Rattle.first_form.specs.GoalForm.{FirstProblem, trees_of}
+use Rattle.first_form.specs.Forest.{trees_of}
 use Rattle.first_form.specs.Read.{Fails, ◌>>=◌}
-use Rattle.first_form.specs.ProofForm.{Proof, Step, Source, claim_of, proof_form, proof_of, proof_tree, refutation_of, refuting, size, source_of}
+use Rattle.first_form.specs.ProofForm.{Proof, Step, claim_of, proof_form, proof_of, proof_tree, refutation_of, refuting, size}
+use Rattle.first_form.specs.Source.{Source}
 use Rattle.first_form.specs.ProofNodes.{ProofNode, node, nodes_from, nodes_from_all, nodes_of, roots}
 use Rattle.first_form.specs.ProofPlan.{last_claim}
-use Rattle.first_form.specs.Setting.{IsSetting, problem_of}
-use Rattle.first_form.specs.Steps.{node_in, nodes_in, nodes_with, source_in}
+use Rattle.first_form.specs.Steps.{node_in, nodes_in, nodes_with}
 use Rattle.first_form.proofs.ProofLemmas.{nodes_long}
 use Rattle.first_form.proofs.StepLemmas.{nodes_length}
 
@@ -80,10 +79,6 @@ module _ (source : Source) (tree : Tree) where
         let none : refutation_of source tree ≡ None = ap (λ (o : Option Proof). o >>= λ p. refuting p) i ∙ rw test refl in
         ap (option_map nodes_of) none
 
--- what a proof may speak of
-pub source_is : (setting : Setting) → IsSetting setting → source_in setting.base setting.lexicon setting.assertions ≡ source_of (problem_of setting)
-source_is setting is = let e = is.assertions in rw e refl
-
 -- behind no nodes
 pub read_from_none : (s : TermStore) (old : List PlanNode) (given source : Source) (tree : Tree) → old ≡ [] → given ≡ source
     → option_map (nodes_with (nodes_in s old)) (proof_of given tree) ≡ option_map nodes_of (proof_of source tree)
@@ -92,18 +87,17 @@ read_from_none s old given source tree none same =
     ap (λ ns. option_map (nodes_with (nodes_in s ns)) (proof_of given tree)) none ∙ ap (λ (g : Source). option_map (nodes_with []) (proof_of g tree)) same
 
 -- the proof of a text, step by step
-module _ (problem : FirstProblem) (text : List ℕ) where
-  pub proof_without_trees : (x : FormFailure) → Fails x (trees_of text) → Fails x (option_map nodes_of (proof_form problem text))
+module _ (source : Source) (text : List ℕ) where
+  pub proof_without_trees : (x : FormFailure) → Fails x (trees_of text) → Fails x (option_map nodes_of (proof_form source text))
   unfolding proof_form
   proof_without_trees failures.Memory h = tt
   proof_without_trees failures.Refused h = rw h refl
 
   module _ (trees : Trees) (is : trees_of text ≡ Some trees) where
-    pub proof_without_tree : proof_tree trees ≡ None → option_map nodes_of (proof_form problem text) ≡ None
+    pub proof_without_tree : proof_tree trees ≡ None → option_map nodes_of (proof_form source text) ≡ None
     unfolding proof_form
     proof_without_tree h = rw (is, h) refl
 
-    module _ (stated : FirstProblem) (tree : Tree) (same : stated ≡ problem) (inner : proof_tree trees ≡ Some tree) where
-      pub proof_from_tree : option_map nodes_of (proof_form problem text) ≡ option_map nodes_of (refutation_of (source_of stated) tree)
-      unfolding proof_form
-      proof_from_tree = rw (is, inner) (ap (λ (q : FirstProblem). option_map nodes_of (refutation_of (source_of q) tree)) (sym same))
+    pub proof_from_tree : (stated : Source) (tree : Tree) → stated ≡ source → proof_tree trees ≡ Some tree → option_map nodes_of (proof_form source text) ≡ option_map nodes_of (refutation_of stated tree)
+    unfolding proof_form
+    proof_from_tree stated tree same inner = rw (is, inner) (ap (λ (g : Source). option_map nodes_of (refutation_of g tree)) (sym same))

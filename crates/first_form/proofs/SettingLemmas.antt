@@ -1,39 +1,47 @@
 -- What a setting stands for, as the store grows.
-use Rattle.std.proofs.Common.{◌≡◌, ℕ, List, [], ◌∷◌, ◌++◌, refl, ap, ◌∙◌}
+use Rattle.std.proofs.Common.{◌≡◌, ℕ, List, [], ◌∷◌, ◌++◌, refl, sym, ap, ◌∙◌}
+use Rattle.hol_types.specs.TypeStore.{text_of, type_tree}
 use Rattle.hol_terms.specs.Constants.{negation}
 use Rattle.hol_terms.specs.TermStore.{TermStore, Keeps, term_tree}
-use Rattle.first_form.specs.declared.lexicon.Spelling.TheVariants.{Dollar}
-use Rattle.first_form.specs.declared.problem.Problem.{Problem}
+use Rattle.goal_text.specs.declared.problem.Problem.{Problem}
+use Rattle.goal_text.specs.ItemsIn.{IsProblem, declared_in}
+use Rattle.goal_text.specs.Scope.{terms_at}
+use Rattle.goal_text.specs.Sentences.{HaveSentences}
+use Rattle.first_form.specs.declared.lexicon.Lexicon.{Lexicon}
 use Rattle.first_form.specs.declared.setting.Setting.{Setting}
-use Rattle.first_form.specs.Lexicon.{HaveFormulas, terms_at}
-use Rattle.first_form.specs.Problem.{IsProblem, problem_in}
-use Rattle.first_form.specs.Setting.{IsSetting, problem_of}
+use Rattle.first_form.specs.Lexicon.{IsLexicon, names_of}
+use Rattle.first_form.specs.Setting.{IsSetting, IsSettingOf}
+use Rattle.first_form.specs.Source.{with_propositions}
 use Rattle.first_form.proofs.LexiconLemmas.{formula_kept, formulas_kept, lexicon_kept, terms_kept}
+use Rattle.hol_terms.proofs.KeepsLemmas.{keeps_trans}
 
--- a problem in a larger store, with its assertions
-module _ (problem : Problem) (u : TermStore) (given : List ℕ) (k : Keeps problem.base u) (is : IsProblem problem) where
+-- a problem in a larger store v, with the constants found in u, and its assertions
+module _ (problem : Problem) (u v : TermStore) (lexicon : Lexicon) (given : List ℕ) (k : Keeps problem.base u) (l : Keeps u v) (is : IsProblem problem) (found : IsLexicon u lexicon) where
   abbrev pub larger : Setting
-  larger = record { base = u; lexicon = record problem.lexicon { spelling = Dollar }; facts = problem.facts; goal = problem.goal; assertions = given }
+  larger = record { base = v; lexicon = lexicon; facts = problem.facts; goal = problem.goal; assertions = given }
 
-  pub larger_same : problem_of larger ≡ problem_in problem
-  larger_same =
-      let e = terms_kept problem.base u k problem.facts is.facts in
-      let g = k.trees problem.goal is.goal.there in
-      rw (e, g) refl
+  both : Keeps problem.base v
+  both = keeps_trans k l
 
-  pub larger_is : (facts : List ℕ) → facts ≡ problem.facts → HaveFormulas u given → terms_at u given ≡ terms_at problem.base facts ++ negation (term_tree problem.base problem.goal) ∷ [] → IsSetting larger
+  pub larger_is : (facts : List ℕ) → facts ≡ problem.facts → HaveSentences v given → terms_at v given ≡ terms_at u facts ++ negation (term_tree u problem.goal) ∷ [] → IsSetting larger
   larger_is facts same are terms =
-      let l = lexicon_kept k is.lexicon in
-      let e = terms_kept problem.base u k problem.facts is.facts in
-      let g = k.trees problem.goal is.goal.there in
-      let listed : terms_at u given ≡ terms_at problem.base problem.facts ++ negation (term_tree problem.base problem.goal) ∷ [] = terms ∙ ap (λ ts. terms_at problem.base ts ++ negation (term_tree problem.base problem.goal) ∷ []) same in
+      let e : terms_at v problem.facts ≡ terms_at u facts = terms_kept u v l problem.facts (formulas_kept problem.base u k problem.facts is.facts) ∙ ap (λ ts. terms_at u ts) (sym same) in
+      let g = l.trees problem.goal (k.terms problem.goal is.goal.there) in
       record {
-        source = record {
-          lexicon_is = record { falsity = l.falsity; negation = l.negation; implication = l.implication; constants = l.constants };
-          dollar = refl;
-          assertions_are = are;
-        };
-        facts = formulas_kept problem.base u k problem.facts is.facts;
-        goal = formula_kept k is.goal;
-        assertions = rw (e, g) listed;
+        source = record { lexicon_is = lexicon_kept l found; assertions_are = are };
+        facts = formulas_kept problem.base v both problem.facts is.facts;
+        goal = formula_kept both is.goal;
+        assertions = rw (e, g) terms;
+      }
+
+  pub larger_of : (facts : List ℕ) → facts ≡ problem.facts → names_of lexicon.constants ≡ with_propositions [] (declared_in problem.base problem.consts)
+      → terms_at v given ≡ terms_at u facts ++ negation (term_tree u problem.goal) ∷ [] → IsSettingOf problem larger
+  larger_of facts same names terms =
+      let e : terms_at u facts ≡ terms_at problem.base problem.facts = ap (λ ts. terms_at u ts) same ∙ terms_kept problem.base u k problem.facts is.facts in
+      let g = k.trees problem.goal is.goal.there in
+      record {
+        source = rw (names, terms, e, g) refl;
+        facts = refl;
+        goal = refl;
+        keeps = both;
       }

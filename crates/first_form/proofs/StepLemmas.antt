@@ -4,17 +4,17 @@ use Rattle.std.specs.Prelude.{All}
 use Rattle.hol_terms.specs.TermStore.{TermStore, Keeps}
 use Rattle.proof_plan.specs.declared.node.PlanNode.{PlanNode}
 use Rattle.first_form.specs.declared.lexicon.Lexicon.{Lexicon}
-use Rattle.first_form.specs.Lexicon.{HaveFormulas}
+use Rattle.goal_text.specs.Sentences.{HaveSentences}
 use Rattle.first_form.specs.Steps.{node_in, nodes_in, IsStep, AreSteps, IsSource, source_in}
 use Rattle.first_form.proofs.LexiconLemmas.{formula_kept, formulas_kept, lexicon_kept, terms_kept}
 
-pub assertions_kept : {s u : TermStore} (assertions : List ℕ) → Keeps s u → HaveFormulas s assertions → HaveFormulas u assertions
+pub assertions_kept : {s u : TermStore} (assertions : List ℕ) → Keeps s u → HaveSentences s assertions → HaveSentences u assertions
 assertions_kept {s = s} {u = u} assertions k are = formulas_kept s u k assertions are
 
 pub source_kept : {s u : TermStore} {lexicon : Lexicon} {assertions : List ℕ} → Keeps s u → IsSource s lexicon assertions → IsSource u lexicon assertions
-source_kept {assertions = assertions} k is = record { lexicon_is = lexicon_kept k is.lexicon_is; dollar = is.dollar; assertions_are = assertions_kept assertions k is.assertions_are }
+source_kept {assertions = assertions} k is = record { lexicon_is = lexicon_kept k is.lexicon_is; assertions_are = assertions_kept assertions k is.assertions_are }
 
-pub source_same : (s u : TermStore) (lexicon : Lexicon) (assertions : List ℕ) → Keeps s u → HaveFormulas s assertions → source_in u lexicon assertions ≡ source_in s lexicon assertions
+pub source_same : (s u : TermStore) (lexicon : Lexicon) (assertions : List ℕ) → Keeps s u → HaveSentences s assertions → source_in u lexicon assertions ≡ source_in s lexicon assertions
 source_same s u lexicon assertions k are = let e = terms_kept s u k assertions are in rw e refl
 
 pub nodes_length : (s : TermStore) (ns : List PlanNode) → length (nodes_in s ns) ≡ length ns

@@ -1,29 +1,25 @@
--- The formulas of the first goal form and the first proof form: constants of type Bool, `false`, negations
--- and implications.
+-- The formulas of the first proof form: constants of type Bool, `false`, negations and implications.
 use Rattle.std.specs.Prelude.{ℕ, List, [], ◌∷◌, ◌++◌, Option, Some, None, if◌then◌else◌, bytes_eq, codes}
 use Rattle.hol_types.specs.Ty.{BoolTy}
 use Rattle.hol_terms.specs.Term.{Term, ConstTm}
 use Rattle.hol_terms.specs.Constants.{false_tm, negation, implication}
 use Rattle.sexp.specs.Tree.{Tree, Trees, AtomTree, QuotedTree, ListTree, no_trees, more_trees}
-use Rattle.first_form.specs.declared.lexicon.Spelling.{Spelling}
-use Rattle.first_form.specs.declared.lexicon.Spelling.TheVariants.{Plain, Dollar}
 use Rattle.first_form.specs.Trees.{text_of}
 use Rattle.first_form.specs.Read.{◌>>=◌}
 
--- a constant's name as a file writes it: a goal file as it is, a proof file with `$` behind it
-abbrev pub spelled : Spelling → List ℕ → List ℕ
-spelled Plain name = name
-spelled Dollar name = name ++ codes "$"
+-- a constant's name as a proof file writes it: with `$` behind it
+abbrev pub spelled : List ℕ → List ℕ
+spelled name = name ++ codes "$"
 
 -- the constant, of those with these names, that is so written
-unfoldable pub constant_of : Spelling → List (List ℕ) → List ℕ → Option Term
-constant_of spelling [] text = None
-constant_of spelling (name ∷ names) text =
-    if bytes_eq text (spelled spelling name) then Some (ConstTm name BoolTy) else constant_of spelling names text
+unfoldable pub constant_of : List (List ℕ) → List ℕ → Option Term
+constant_of [] text = None
+constant_of (name ∷ names) text =
+    if bytes_eq text (spelled name) then Some (ConstTm name BoolTy) else constant_of names text
 
 -- an atom: `false`, or a constant
-unfoldable pub atom_of : Spelling → List (List ℕ) → List ℕ → Option Term
-atom_of spelling names text = if bytes_eq text (codes "false") then Some false_tm else constant_of spelling names text
+unfoldable pub atom_of : List (List ℕ) → List ℕ → Option Term
+atom_of names text = if bytes_eq text (codes "false") then Some false_tm else constant_of names text
 
 -- implications of each formula by those before it, nested to the right
 abbrev pub implied : Term → List Term → Term
@@ -48,18 +44,18 @@ built word parts =
 
 unfoldable mutual
   -- the formula that a tree is read as, these being the names of the constants
-  pub formula_of : Spelling → List (List ℕ) → Tree → Option Term
-  formula_of spelling names (AtomTree at text) = atom_of spelling names text
-  formula_of spelling names (QuotedTree at text) = None
-  formula_of spelling names (ListTree at no_trees) = None
-  formula_of spelling names (ListTree at (more_trees head parts)) = do
-    formulas ← formulas_of spelling names parts
+  pub formula_of : List (List ℕ) → Tree → Option Term
+  formula_of names (AtomTree at text) = atom_of names text
+  formula_of names (QuotedTree at text) = None
+  formula_of names (ListTree at no_trees) = None
+  formula_of names (ListTree at (more_trees head parts)) = do
+    formulas ← formulas_of names parts
     built (text_of head) formulas
 
   -- from left to right
-  pub formulas_of : Spelling → List (List ℕ) → Trees → Option (List Term)
-  formulas_of spelling names no_trees = Some []
-  formulas_of spelling names (more_trees tree trees) = do
-    first ← formula_of spelling names tree
-    others ← formulas_of spelling names trees
+  pub formulas_of : List (List ℕ) → Trees → Option (List Term)
+  formulas_of names no_trees = Some []
+  formulas_of names (more_trees tree trees) = do
+    first ← formula_of names tree
+    others ← formulas_of names trees
     Some (first ∷ others)

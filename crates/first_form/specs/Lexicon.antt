@@ -5,30 +5,9 @@ use Rattle.std.specs.Map.{lookup}
 use Rattle.hol_types.specs.Ty.{BoolTy}
 use Rattle.hol_terms.specs.Term.{Term, ConstTm}
 use Rattle.hol_terms.specs.TermStore.{TermStore, HasTerm, term_tree}
-use Rattle.hol_terms.specs.Substitution.{free_variables}
-use Rattle.hol_terms.specs.Formula.{IsFormula}
 use Rattle.hol_terms.specs.Constants.{false_tm, not_tm, imp_tm}
 use Rattle.first_form.specs.declared.lexicon.Lexicon.{Lexicon}
-use Rattle.first_form.specs.declared.lexicon.Spelling.{Spelling}
 use Rattle.first_form.specs.Formulas.{spelled}
-
--- a formula without free variables
-pub record IsGroundFormula (t : Term) : Type 0 where
-  pub formula : IsFormula t
-  pub ground : free_variables t ≡ []
-
--- the number of such a formula
-pub record HasFormula (s : TermStore) (t : ℕ) : Type 0 where
-  pub there : HasTerm s t
-  pub formula : IsGroundFormula (term_tree s t)
-
--- numbers of such formulas
-abbrev pub HaveFormulas : TermStore → List ℕ → Type 0
-HaveFormulas s ts = AllByRecursion (HasFormula s) ts
-
--- the terms of numbers
-abbrev pub terms_at : TermStore → List ℕ → List Term
-terms_at s ts = map (λ t. term_tree s t) ts
 
 -- the number of a term
 pub record IsNumberOf (s : TermStore) (t : ℕ) (is : Term) : Type 0 where
@@ -51,9 +30,9 @@ pub record IsLexicon (s : TermStore) (lexicon : Lexicon) : Type 0 where
   pub constants : AreConstants s lexicon.constants
 
 -- the number of the constant that is so written
-abbrev pub number_of : Spelling → List (List ℕ × ℕ) → List ℕ → Option ℕ
-number_of spelling constants text = lookup (λ name. bytes_eq text (spelled spelling name)) constants
+abbrev pub number_of : List (List ℕ × ℕ) → List ℕ → Option ℕ
+number_of constants text = lookup (λ name. bytes_eq text (spelled name)) constants
 
 -- the number of the term that an atom is read as
 abbrev pub atom_number : Lexicon → List ℕ → Option ℕ
-atom_number lexicon text = if bytes_eq text (codes "false") then Some lexicon.falsity else number_of lexicon.spelling lexicon.constants text
+atom_number lexicon text = if bytes_eq text (codes "false") then Some lexicon.falsity else number_of lexicon.constants text

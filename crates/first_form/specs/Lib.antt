@@ -1,11 +1,9 @@
 pub mod Read
 pub mod Trees
-pub mod Names
+pub mod Forest
 pub mod Formulas
-pub mod GoalForm
-pub mod GoalText
 pub mod Lexicon
-pub mod Problem
+pub mod Source
 pub mod ProofForm
 pub mod ProofNodes
 pub mod Steps

@@ -3,15 +3,15 @@ use Rattle.std.specs.Prelude.{ℕ, ◌+◌, List, [], ◌∷◌, ◌++◌, Optio
 use Rattle.std.specs.List.{list_any}
 use Rattle.hol_terms.specs.Term.{Term}
 use Rattle.hol_terms.specs.TermEq.{term_eq}
-use Rattle.hol_terms.specs.Constants.{false_tm, negation}
+use Rattle.hol_terms.specs.Constants.{false_tm}
 use Rattle.sexp.specs.Tree.{Tree, Trees, AtomTree, QuotedTree, ListTree, no_trees, more_trees}
 use Rattle.proof_plan.specs.declared.rule.Rule.{Rule}
 use Rattle.proof_plan.specs.declared.rule.Rule.TheVariants.{Asserted, Mp, UnitResolution}
-use Rattle.first_form.specs.declared.lexicon.Spelling.TheVariants.{Dollar}
 use Rattle.first_form.specs.Read.{◌>>=◌}
 use Rattle.first_form.specs.Trees.{text_of, one_of, is_empty}
 use Rattle.first_form.specs.Formulas.{formula_of}
-use Rattle.first_form.specs.GoalForm.{FirstProblem, trees_of}
+use Rattle.first_form.specs.Forest.{trees_of}
+use Rattle.first_form.specs.Source.{Source}
 
 mutual
   -- a rule application: the byte of its opening parenthesis, its rule, its premises and its conclusion
@@ -30,15 +30,6 @@ count (more_proofs first rest) = count rest + 1
 -- what a proof shows
 abbrev pub claim_of : Proof → Term
 claim_of (Step at rule premises claim) = claim
-
--- what a proof file may speak of: the constants of the problem, and its assertions
-pub record Source : Type 0 where
-  pub consts : List (List ℕ)
-  pub assertions : List Term
-
--- the facts in order, and the negated goal
-abbrev pub source_of : FirstProblem → Source
-source_of problem = record { consts = problem.consts; assertions = problem.facts ++ negation problem.goal ∷ [] }
 
 -- the rule of a name
 abbrev pub rule_of : List ℕ → Option Rule
@@ -67,7 +58,7 @@ unfoldable mutual
   proof_of source (ListTree at (more_trees head parts)) = do
     rule ← rule_of (text_of head)
     both ← premises_of source parts
-    claim ← formula_of Dollar source.consts both.1
+    claim ← formula_of source.consts both.1
     step source at rule both.0 claim
 
   -- the premises, and the last tree
@@ -111,8 +102,8 @@ refutation_of source tree = do
   refuting proof
 
 -- the proof of `false` that a text of the first proof form says
-unfoldable pub proof_form : FirstProblem → List ℕ → Option Proof
-proof_form problem text = do
+unfoldable pub proof_form : Source → List ℕ → Option Proof
+proof_form source text = do
   trees ← trees_of text
   tree ← proof_tree trees
-  refutation_of (source_of problem) tree
+  refutation_of source tree

@@ -8,9 +8,11 @@ use Rattle.proof_plan.specs.declared.rule.Rule.{Rule}
 use Rattle.proof_plan.specs.declared.rule.Rule.TheVariants.{Asserted, Mp, UnitResolution}
 use Rattle.sexp.specs.Tree.{Tree}
 use Rattle.first_form.specs.declared.lexicon.Lexicon.{Lexicon}
-use Rattle.first_form.specs.declared.lexicon.Spelling.TheVariants.{Dollar}
-use Rattle.first_form.specs.Lexicon.{HasFormula, HaveFormulas, IsLexicon, names_of, terms_at}
-use Rattle.first_form.specs.ProofForm.{Proof, Proofs, Source}
+use Rattle.goal_text.specs.Scope.{terms_at}
+use Rattle.goal_text.specs.Sentences.{HasSentence, HaveSentences}
+use Rattle.first_form.specs.Lexicon.{IsLexicon, names_of}
+use Rattle.first_form.specs.ProofForm.{Proof, Proofs}
+use Rattle.first_form.specs.Source.{Source}
 use Rattle.first_form.specs.ProofNodes.{ProofNode, nodes_from, nodes_from_all, roots}
 
 -- a rule application, its conclusion as a tree
@@ -30,7 +32,7 @@ IsFirstRule r = (r ≡ Asserted) ⊎ (r ≡ Mp) ⊎ (r ≡ UnitResolution)
 
 -- rule application k
 pub record IsStep (s : TermStore) (assertions : List ℕ) (k : ℕ) (n : PlanNode) : Type 0 where
-  pub claim : HasFormula s n.claim
+  pub claim : HasSentence s n.claim
   pub weights : n.weights ≡ []
   pub vars : n.vars ≡ []
   pub hyps : n.hyps ≡ []
@@ -56,8 +58,7 @@ premises_with before numbers both = ((before ++ nodes_from_all (length before) b
 abbrev pub source_in : TermStore → Lexicon → List ℕ → Source
 source_in s lexicon assertions = record { consts = names_of lexicon.constants; assertions = terms_at s assertions }
 
--- their numbers are those of formulas, and names are written as in a proof file
+-- their numbers are those of constants and sentences
 pub record IsSource (s : TermStore) (lexicon : Lexicon) (assertions : List ℕ) : Type 0 where
   pub lexicon_is : IsLexicon s lexicon
-  pub dollar : lexicon.spelling ≡ Dollar
-  pub assertions_are : HaveFormulas s assertions
+  pub assertions_are : HaveSentences s assertions

@@ -26,13 +26,6 @@ one_of no_trees = None
 one_of (more_trees tree no_trees) = Some tree
 one_of (more_trees tree (more_trees second others)) = None
 
--- the trees, where there are just two
-abbrev pub two_of : Trees → Option (Tree × Tree)
-two_of no_trees = None
-two_of (more_trees tree no_trees) = None
-two_of (more_trees tree (more_trees second no_trees)) = Some (tree, second)
-two_of (more_trees tree (more_trees second (more_trees third others))) = None
-
 -- there is no tree
 abbrev pub is_empty : Trees → Bool
 is_empty no_trees = true

@@ -5,7 +5,8 @@ ghost use Rattle.indexmap.specs.IndexSet.{contains};
 ghost use Rattle.hol_terms.specs.Formula.{In};
 ghost use Rattle.hol_terms.specs.TermEq.{term_eq};
 ghost use Rattle.hol_terms.specs.TermStore.{HasTerm, term_tree};
-ghost use Rattle.first_form.specs.Lexicon.{HaveFormulas, terms_at};
+ghost use Rattle.goal_text.specs.Scope.{terms_at};
+ghost use Rattle.goal_text.specs.Sentences.{HaveSentences};
 
 use hol_terms::{Base, TermId, Terms};
 use hol_types::List;
@@ -14,10 +15,15 @@ use std::alloc::{AllocError, Global};
 use std::marker::Model;
 
 /// Terms in order, in which one is found by hash.
-#[derive(Drop)]
 pub struct Assertions {
     list: Vec<TermId>,
     set: IndexSet<TermId>,
+}
+
+impl Drop for Assertions {
+    fn drop(self) {
+        let Assertions { list: _, set: _ } = self;
+    }
 }
 
 impl Model for Assertions {
@@ -55,7 +61,8 @@ impl Assertions {
     pub fn into_list(self) -> List<TermId>
         ensures { result ≡ self }
     {
-        List::new(self.list)
+        let Assertions { list, set: _ } = self;
+        List::new(list)
     }
 
     /// Whether a term is among them.
@@ -69,7 +76,7 @@ impl Assertions {
 /// Whether a formula is an assertion.
 pub fn is_assertion(base: &Base, assertions: &Assertions, claim: TermId) -> bool
     requires claim { HasTerm base.now claim }
-    requires assertions { HaveFormulas base.now assertions.now }
+    requires assertions { HaveSentences base.now assertions.now }
     ensures tree { result ≡ list_any (term_eq (term_tree base.now claim)) (terms_at base.now assertions.now) }
     ensures number { IsTrue result → In claim assertions.now }
 {

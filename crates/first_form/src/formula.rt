@@ -1,10 +1,12 @@
-//! Formulas of the first forms.
+//! Formulas of the first proof form.
 ghost use Rattle.std.specs.Prelude.{IfOk, Some};
 ghost use Rattle.hol_terms.specs.Constants.{negation, implication};
 ghost use Rattle.hol_terms.specs.TermStore.{Keeps, term_tree};
 ghost use Rattle.sexp.specs.Forest.{tree_at, trees_at, HasTree, IsRun};
 ghost use Rattle.first_form.specs.Formulas.{built, formula_of, formulas_of, implication_of, negation_of};
-ghost use Rattle.first_form.specs.Lexicon.{HasFormula, HaveFormulas, IsLexicon, names_of, terms_at};
+ghost use Rattle.goal_text.specs.Scope.{terms_at};
+ghost use Rattle.goal_text.specs.Sentences.{HasSentence, HaveSentences};
+ghost use Rattle.first_form.specs.Lexicon.{IsLexicon, names_of};
 ghost use Rattle.first_form.specs.Read.{Gives};
 
 use crate::failure::FormFailure;
@@ -17,9 +19,9 @@ use sexp::Forest;
 /// The negation of a formula.
 pub fn not(base: &mut Base, lexicon: &Lexicon, a: TermId) -> Result<TermId, FormFailure>
     requires lexicon { IsLexicon base.old lexicon.now }
-    requires formula { HasFormula base.old a }
+    requires formula { HasSentence base.old a }
     ensures read { Gives (term_tree base.new) result (Some (negation (term_tree base.old a))) }
-    ensures formula { IfOk result (HasFormula base.new) }
+    ensures formula { IfOk result (HasSentence base.new) }
     ensures keeps { Keeps base.old base.new }
 {
     let t = typed(base, Node::App(lexicon.negation, a))?;
@@ -30,10 +32,10 @@ pub fn not(base: &mut Base, lexicon: &Lexicon, a: TermId) -> Result<TermId, Form
 #[tactic(auto, using(hol_terms::proofs::KeepsLemmas::keeps_trans))]
 fn implies(base: &mut Base, lexicon: &Lexicon, a: TermId, b: TermId) -> Result<TermId, FormFailure>
     requires lexicon { IsLexicon base.old lexicon.now }
-    requires premise { HasFormula base.old a }
-    requires conclusion { HasFormula base.old b }
+    requires premise { HasSentence base.old a }
+    requires conclusion { HasSentence base.old b }
     ensures read { Gives (term_tree base.new) result (Some (implication (term_tree base.old a) (term_tree base.old b))) }
-    ensures formula { IfOk result (HasFormula base.new) }
+    ensures formula { IfOk result (HasSentence base.new) }
     ensures keeps { Keeps base.old base.new }
 {
     let given = typed(base, Node::App(lexicon.implication, a))?;
@@ -44,9 +46,9 @@ fn implies(base: &mut Base, lexicon: &Lexicon, a: TermId, b: TermId) -> Result<T
 /// The negation of the one part.
 fn negated(base: &mut Base, lexicon: &Lexicon, parts: Vec<TermId>) -> Result<TermId, FormFailure>
     requires lexicon { IsLexicon base.old lexicon.now }
-    requires parts { HaveFormulas base.old parts.items }
+    requires parts { HaveSentences base.old parts.items }
     ensures read { Gives (term_tree base.new) result (negation_of (terms_at base.old parts.items)) }
-    ensures formula { IfOk result (HasFormula base.new) }
+    ensures formula { IfOk result (HasSentence base.new) }
     ensures keeps { Keeps base.old base.new }
 {
     match parts.as_slice() {
@@ -61,9 +63,9 @@ fn negated(base: &mut Base, lexicon: &Lexicon, parts: Vec<TermId>) -> Result<Ter
 /// The implications of two parts or more, nested to the right.
 fn implied(base: &mut Base, lexicon: &Lexicon, parts: Vec<TermId>) -> Result<TermId, FormFailure>
     requires lexicon { IsLexicon base.old lexicon.now }
-    requires parts { HaveFormulas base.old parts.items }
+    requires parts { HaveSentences base.old parts.items }
     ensures read { Gives (term_tree base.new) result (implication_of (terms_at base.old parts.items)) }
-    ensures formula { IfOk result (HasFormula base.new) }
+    ensures formula { IfOk result (HasSentence base.new) }
     ensures keeps { Keeps base.old base.new }
 {
     let mut premises = parts;
@@ -89,9 +91,9 @@ fn form(
     parts: Vec<TermId>,
 ) -> Result<TermId, FormFailure>
     requires lexicon { IsLexicon base.old lexicon.now }
-    requires parts { HaveFormulas base.old parts.items }
+    requires parts { HaveSentences base.old parts.items }
     ensures read { Gives (term_tree base.new) result (built word.now (terms_at base.old parts.items)) }
-    ensures formula { IfOk result (HasFormula base.new) }
+    ensures formula { IfOk result (HasSentence base.new) }
     ensures keeps { Keeps base.old base.new }
 {
     if word == b"not".as_slice() {
@@ -114,8 +116,8 @@ pub fn formula_at(
 ) -> Result<TermId, FormFailure>
     requires lexicon { IsLexicon base.old lexicon.now }
     requires tree { HasTree forest.now i }
-    ensures read { Gives (term_tree base.new) result (formula_of lexicon.now.spelling (names_of lexicon.now.constants) (tree_at forest.now i)) }
-    ensures formula { IfOk result (HasFormula base.new) }
+    ensures read { Gives (term_tree base.new) result (formula_of (names_of lexicon.now.constants) (tree_at forest.now i)) }
+    ensures formula { IfOk result (HasSentence base.new) }
     ensures keeps { Keeps base.old base.new }
 {
     if let Some(text) = atom_at(forest, i) {
@@ -147,8 +149,8 @@ fn formulas_at(
 ) -> Result<Vec<TermId>, FormFailure>
     requires lexicon { IsLexicon base.old lexicon.now }
     requires run { IsRun forest.now first end }
-    ensures read { Gives (λ ts. terms_at base.new ts.items) result (formulas_of lexicon.now.spelling (names_of lexicon.now.constants) (trees_at forest.now first end)) }
-    ensures formulas { IfOk result (λ ts. HaveFormulas base.new ts.items) }
+    ensures read { Gives (λ ts. terms_at base.new ts.items) result (formulas_of (names_of lexicon.now.constants) (trees_at forest.now first end)) }
+    ensures formulas { IfOk result (λ ts. HaveSentences base.new ts.items) }
     ensures keeps { Keeps base.old base.new }
 {
     let mut formulas = Vec::new(base.allocator());

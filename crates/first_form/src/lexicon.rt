@@ -1,31 +1,33 @@
 //! The constants that formulas are made of.
 ghost use Rattle.std.specs.Prelude.{◌≡◌, ◌∷◌, ◌++◌, [], None, bytes_eq, false, IfErr, IfOk, OnOk};
 ghost use Rattle.std.specs.Map.{lookup};
+ghost use Rattle.hol_types.specs.Ty.{BoolTy};
+ghost use Rattle.hol_types.specs.TypeStore.{text_of, type_tree};
 ghost use Rattle.hol_terms.specs.TermStore.{Keeps};
-ghost use Rattle.first_form.specs.GoalForm.{is_declared};
+ghost use Rattle.goal_text.specs.ItemsIn.{HasDeclared};
+ghost use Rattle.first_form.specs.Source.{is_declared};
 ghost use Rattle.first_form.specs.Lexicon as lexicons;
 ghost use Rattle.first_form.specs.Lexicon.{IsLexicon, IsNumberOf};
 ghost use Rattle.hol_terms.specs.Constants.{false_tm, not_tm, imp_tm};
 
 use crate::failure::FormFailure;
-use crate::made::{constant, type_of};
-use hol_terms::{Base, TermId, Terms};
+use crate::made::{constant, type_of, typed};
+use goal_text::Declared;
+use hol_terms::{Base, Node, TermId, Terms};
 use hol_types::TypeNode;
 use indexmap::IndexMap;
 use std::alloc::{AllocError, Global};
 use std::marker::Model;
 
-/// How a file writes the name of a constant: a goal file as it is, a proof file with `$` behind it.
-#[derive(Clone, Copy, Debug, PartialEq, Eq)]
-pub enum Spelling {
-    Plain,
-    Dollar,
-}
-
 /// Constants by their names, in the order in which they were declared.
-#[derive(Drop)]
 pub struct Constants {
     numbers: IndexMap<Vec<u8>, TermId>,
+}
+
+impl Drop for Constants {
+    fn drop(self) {
+        let Constants { numbers: _ } = self;
+    }
 }
 
 impl Model for Constants {
@@ -104,23 +106,31 @@ fn implication(base: &mut Base) -> Result<TermId, FormFailure>
     Ok(t)
 }
 
-/// The constants of a problem, and how their names are written.
-#[derive(Drop)]
+/// The constants of formulas.
 pub struct Lexicon {
     pub falsity: TermId,
     pub negation: TermId,
     pub implication: TermId,
     pub constants: Constants,
-    pub spelling: Spelling,
+}
+
+impl Drop for Lexicon {
+    fn drop(self) {
+        let Lexicon {
+            falsity: _,
+            negation: _,
+            implication: _,
+            constants: _,
+        } = self;
+    }
 }
 
 impl Lexicon {
-    /// The constants of formulas, none of which is declared yet, written as in a goal file.
+    /// The constants of formulas, none of which is declared yet.
     #[tactic(auto, using(hol_terms::proofs::KeepsLemmas::keeps_trans, crate::proofs::LexiconLemmas::number_kept))]
     pub fn new(base: &mut Base) -> Result<Lexicon, FormFailure>
         ensures lexicon { IfOk result (IsLexicon base.new) }
         ensures none { IfOk result (λ l. l.constants ≡ []) }
-        ensures plain { IfOk result (λ l. l.spelling ≡ Spelling.Plain) }
         ensures memory { IfErr result (λ e. e ≡ FormFailure.Memory) }
         ensures keeps { Keeps base.old base.new }
     {
@@ -132,26 +142,24 @@ impl Lexicon {
             negation,
             implication,
             constants: Constants::new(base.allocator()),
-            spelling: Spelling::Plain,
         })
     }
 
-    /// Declares a constant of type Bool whose name isn't declared.
+    /// Adds a constant of type Bool whose name isn't declared.
     #[tactic(auto, using(hol_terms::proofs::KeepsLemmas::keeps_trans, crate::proofs::LexiconLemmas::lexicon_kept, crate::proofs::LexiconLemmas::absent_found))]
-    pub fn declare(&mut self, base: &mut Base, name: &[u8]) -> Result<(), FormFailure>
+    pub fn declare(&mut self, base: &mut Base, declared: Declared) -> Result<(), FormFailure>
         requires lexicon { IsLexicon base.old self.old }
-        requires absent { is_declared (lexicons.names_of self.old.constants) name.now ≡ false }
+        requires declared { HasDeclared base.old declared }
+        requires proposition { type_tree base.old.types declared.ty ≡ BoolTy }
+        requires absent { is_declared (lexicons.names_of self.old.constants) (text_of base.old.types declared.name) ≡ false }
         ensures lexicon { OnOk result (IsLexicon base.new self.new) }
-        ensures names { OnOk result (lexicons.names_of self.new.constants ≡ lexicons.names_of self.old.constants ++ name.now ∷ []) }
-        ensures spelling { OnOk result (self.new.spelling ≡ self.old.spelling) }
+        ensures names { OnOk result (lexicons.names_of self.new.constants ≡ lexicons.names_of self.old.constants ++ text_of base.old.types declared.name ∷ []) }
         ensures memory { IfErr result (λ e. e ≡ FormFailure.Memory) }
         ensures keeps { Keeps base.old base.new }
     {
-        let bool = type_of(base, TypeNode::Bool)?;
-        let t = constant(base, name, bool)?;
-        let mut owned = Vec::new(base.allocator());
-        owned.extend_from_slice(name)?;
-        self.constants.push(owned, t)?;
+        let name = Vec::from_slice(base.allocator(), base.text(declared.name))?;
+        let t = typed(base, Node::Const(declared.name, declared.ty))?;
+        self.constants.push(name, t)?;
         Ok(())
     }
 
@@ -163,16 +171,13 @@ impl Lexicon {
         self.constants.find(name).is_some()
     }
 
-    /// The constant that is so written.
+    /// The constant that is so written: with `$` behind its name.
     fn constant(&self, text: &[u8]) -> Option<TermId>
-        ensures { result ≡ lexicons.number_of self.now.spelling self.now.constants text.now }
+        ensures { result ≡ lexicons.number_of self.now.constants text.now }
     {
-        match self.spelling {
-            Spelling::Plain => self.constants.find(text),
-            Spelling::Dollar => match text.strip_suffix(b"$".as_slice()) {
-                Some(name) => self.constants.find(name),
-                None => None,
-            },
+        match text.strip_suffix(b"$".as_slice()) {
+            Some(name) => self.constants.find(name),
+            None => None,
         }
     }
 

@@ -4,7 +4,8 @@ ghost use Rattle.hol_terms.specs.Formula.{In};
 ghost use Rattle.hol_terms.specs.TermStore.{HasTerm, Keeps, term_tree};
 ghost use Rattle.proof_plan.specs.Rules.{TakesPremises};
 ghost use Rattle.sexp.specs.Forest.{tree_at, trees_at, HasTree, IsRun};
-ghost use Rattle.first_form.specs.Lexicon.{HaveFormulas, terms_at};
+ghost use Rattle.goal_text.specs.Scope.{terms_at};
+ghost use Rattle.goal_text.specs.Sentences.{HaveSentences};
 ghost use Rattle.first_form.specs.ProofForm as proofs;
 ghost use Rattle.first_form.specs.ProofForm.{proof_of, premises_of};
 ghost use Rattle.first_form.specs.Read.{Gives};
@@ -55,7 +56,7 @@ fn name_of(alloc: Global, place: u32) -> Result<List<u8>, AllocError>
 #[tactic(auto, unfolding(crate::specs::ProofForm::fits))]
 fn fits(base: &Base, assertions: &Assertions, rule: Rule, premises: usize, claim: TermId) -> bool
     requires claim { HasTerm base.now claim }
-    requires assertions { HaveFormulas base.now assertions.now }
+    requires assertions { HaveSentences base.now assertions.now }
     ensures tree { result ≡ proofs.fits (terms_at base.now assertions.now) rule premises (term_tree base.now claim) }
     ensures count { IsTrue result → TakesPremises rule premises }
     ensures first { IsTrue result → IsFirstRule rule }

@@ -2,20 +2,23 @@
 ghost use Rattle.std.specs.Prelude.{◌≡◌, ◌++◌, ◌∷◌, [], IfErr, IfOk};
 ghost use Rattle.hol_terms.specs.Constants.{negation};
 ghost use Rattle.hol_terms.specs.TermStore.{Keeps, term_tree};
-ghost use Rattle.first_form.specs.Lexicon.{HasFormula, HaveFormulas, IsLexicon, terms_at};
-ghost use Rattle.first_form.specs.Problem.{IsProblem, problem_in};
-ghost use Rattle.first_form.specs.Setting.{IsSetting, problem_of};
+ghost use Rattle.goal_text.specs.Scope.{terms_at};
+ghost use Rattle.goal_text.specs.Sentences.{HasSentence, HaveSentences};
+ghost use Rattle.first_form.specs.Lexicon.{IsLexicon};
+ghost use Rattle.goal_text.specs.ItemsIn.{IsProblem};
+ghost use Rattle.first_form.specs.Setting.{IsSetting, IsSettingOf};
 
 use crate::assertions::Assertions;
 use crate::failure::FormFailure;
 use crate::formula::not;
-use crate::lexicon::{Lexicon, Spelling};
-use crate::problem::Problem;
+use crate::lexicon::Lexicon;
+use crate::propositions::lexicon_of;
+use goal_text::{Declared, Problem};
 use hol_terms::{Base, TermId};
 use hol_types::List;
 use std::alloc::Global;
 
-/// A problem with its assertions, names being written as in a proof file.
+/// A problem with its assertions, and the constants that a proof may name.
 #[derive(Drop)]
 pub struct Setting {
     pub base: Base,
@@ -35,10 +38,10 @@ fn assertions_of(
     goal: TermId,
 ) -> Result<Assertions, FormFailure>
     requires lexicon { IsLexicon base.old lexicon.now }
-    requires facts { HaveFormulas base.old facts.now }
-    requires goal { HasFormula base.old goal }
+    requires facts { HaveSentences base.old facts.now }
+    requires goal { HasSentence base.old goal }
     ensures terms { IfOk result (λ given. terms_at base.new given ≡ terms_at base.old facts.now ++ negation (term_tree base.old goal) ∷ []) }
-    ensures formulas { IfOk result (HaveFormulas base.new) }
+    ensures formulas { IfOk result (HaveSentences base.new) }
     ensures memory { IfErr result (λ e. e ≡ FormFailure.Memory) }
     ensures keeps { Keeps base.old base.new }
 {
@@ -49,28 +52,29 @@ fn assertions_of(
     Ok(assertions)
 }
 
-/// The setting of a proof for a problem.
-pub fn setting_of(alloc: Global, problem: Problem) -> Result<Setting, FormFailure>
+/// The setting of a proof for a problem, and the problem's constants.
+pub fn setting_of(alloc: Global, problem: Problem) -> Result<(Setting, List<Declared>), FormFailure>
     requires { IsProblem problem }
-    ensures setting { IfOk result IsSetting }
-    ensures problem { IfOk result (λ setting. problem_of setting ≡ problem_in problem) }
+    ensures setting { IfOk result (λ r. IsSetting r.0) }
+    ensures problem { IfOk result (λ r. IsSettingOf problem r.0) }
+    ensures consts { IfOk result (λ r. r.1 ≡ problem.consts) }
     ensures memory { IfErr result (λ e. e ≡ FormFailure.Memory) }
 {
     let Problem {
         base,
-        lexicon,
+        consts,
         facts,
         goal,
     } = problem;
     let mut base = base;
-    let mut lexicon = lexicon;
+    let lexicon = lexicon_of(&mut base, consts.as_slice())?;
     let assertions = assertions_of(alloc, &mut base, &lexicon, facts.as_slice(), goal)?;
-    lexicon.spelling = Spelling::Dollar;
-    Ok(Setting {
+    let setting = Setting {
         base,
         lexicon,
         facts,
         goal,
         assertions,
-    })
+    };
+    Ok((setting, consts))
 }

@@ -52,21 +52,6 @@ pub fn one_at(forest: &Forest, first: u32, end: u32) -> Option<u32>
     }
 }
 
-/// The numbers of the trees of a run, where there are just two.
-pub fn two_at(forest: &Forest, first: u32, end: u32) -> Option<(u32, u32)>
-    requires { IsRun forest.now first end }
-    ensures trees { MatchOption result (trees.two_of (trees_at forest.now first end) ≡ None) (λ r. trees.two_of (trees_at forest.now first end) ≡ Some (tree_at forest.now r.0, tree_at forest.now r.1)) }
-    ensures first { IfSome result (λ r. HasTree forest.now r.0) }
-    ensures second { IfSome result (λ r. HasTree forest.now r.1) }
-{
-    let second = forest.next(first, end)?;
-    let third = forest.next(second, end)?;
-    match forest.next(third, end) {
-        Some(_) => None,
-        None => Some((first, second)),
-    }
-}
-
 /// Whether a run has no tree.
 pub fn is_empty(forest: &Forest, first: u32, end: u32) -> bool
     requires { IsRun forest.now first end }

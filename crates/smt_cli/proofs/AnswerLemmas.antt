@@ -10,12 +10,13 @@ use Rattle.proof_plan.specs.declared.why.Why.{Why}
 use Rattle.proof_plan.specs.PlanValue.{PlanValue, node_at, tree_in, rule_of, premises_of, premise_claims, claim_of, no_node as no_plan_node}
 use Rattle.proof_plan.specs.Accept.{Accept, Verdict, accepted, refused, step_answer}
 use Rattle.proof_plan.specs.IsPlan.{IsPlan, IsNode}
-use Rattle.first_form.specs.GoalForm.{FirstProblem}
+use Rattle.goal_text.specs.Names.{Constants}
+use Rattle.first_form.specs.Source.{Source}
 use Rattle.first_form.specs.ProofForm.{Proof, proof_form}
 use Rattle.first_form.specs.ProofNodes.{ProofNode, nodes_of}
 use Rattle.first_form.specs.ProofPlan.{plan_nodes_in}
 use Rattle.first_form.specs.Steps.{node_in, nodes_in}
-use Rattle.smt_cli.specs.Answers.{Answer, ProofRefused, ProvedGoal, FailedAt, replayed, replay_answer, proof_answer, problem_answer, verdict, before, claim_at, no_node}
+use Rattle.smt_cli.specs.Answers.{Answer, ProvedGoal, FailedAt, replayed, replay_answer, proof_answer, verdict, before, claim_at, no_node}
 use Rattle.smt_cli.specs.declared.line.Line.{Line}
 use Rattle.smt_cli.specs.Follows.{IsProblemStatus}
 use Rattle.smt_cli.specs.Writing.{IsLineOf}
@@ -26,24 +27,24 @@ use Rattle.smt_cli.specs.PlanAnswers.{plan_answer}
 -- ---- nodes in order
 
 -- where each of the nodes is accepted, the goal is proved
-replayed_all : (all ns : List ProofNode) (goal : Term) → ((i : ℕ) → i < length ns → verdict all (slice_index_or ns i no_node) ≡ accepted) → replayed all ns goal ≡ ProvedGoal goal
+replayed_all : (all ns : List ProofNode) (last : Answer) → ((i : ℕ) → i < length ns → verdict all (slice_index_or ns i no_node) ≡ accepted) → replayed all ns last ≡ last
 unfolding replayed
-replayed_all all [] goal h = refl
-replayed_all all (n ∷ ns) goal h =
-    let rest = replayed_all all ns goal (λ i l. h (suc i) (omega arith)) in
+replayed_all all [] last h = refl
+replayed_all all (n ∷ ns) last h =
+    let rest = replayed_all all ns last (λ i l. h (suc i) (omega arith)) in
     let first : verdict all n ≡ accepted = h 0 (omega arith) in
-    ap (λ v. before v n (replayed all ns goal)) first ∙ rest
+    ap (λ v. before v n (replayed all ns last)) first ∙ rest
 
 -- where node k is the first that isn't, it is answered
-replayed_to : (all ns : List ProofNode) (goal : Term) (k : ℕ) (w : Why) → k < length ns → ((i : ℕ) → i < k → verdict all (slice_index_or ns i no_node) ≡ accepted) → verdict all (slice_index_or ns k no_node) ≡ refused w
-    → replayed all ns goal ≡ FailedAt (slice_index_or ns k no_node).name (slice_index_or ns k no_node).rule w
+replayed_to : (all ns : List ProofNode) (last : Answer) (k : ℕ) (w : Why) → k < length ns → ((i : ℕ) → i < k → verdict all (slice_index_or ns i no_node) ≡ accepted) → verdict all (slice_index_or ns k no_node) ≡ refused w
+    → replayed all ns last ≡ FailedAt (slice_index_or ns k no_node).name (slice_index_or ns k no_node).rule w
 unfolding replayed
-replayed_to all [] goal k w l h e = absurd (omega arith)
-replayed_to all (n ∷ ns) goal zero w l h e = ap (λ v. before v n (replayed all ns goal)) e
-replayed_to all (n ∷ ns) goal (suc k) w l h e =
-    let rest = replayed_to all ns goal k w (omega arith) (λ i m. h (suc i) (omega arith)) e in
+replayed_to all [] last k w l h e = absurd (omega arith)
+replayed_to all (n ∷ ns) last zero w l h e = ap (λ v. before v n (replayed all ns last)) e
+replayed_to all (n ∷ ns) last (suc k) w l h e =
+    let rest = replayed_to all ns last k w (omega arith) (λ i m. h (suc i) (omega arith)) e in
     let first : verdict all n ≡ accepted = h 0 (omega arith) in
-    ap (λ v. before v n (replayed all ns goal)) first ∙ rest
+    ap (λ v. before v n (replayed all ns last)) first ∙ rest
 
 -- ---- nodes of a plan
 
@@ -79,15 +80,15 @@ accept_is p is k h = ap (λ n. verdict (plan_nodes_in p) n) (node_is p k h) ∙ 
 as_many : (p : PlanValue) → length (plan_nodes_in p) ≡ length p.nodes
 as_many p = length-map p.nodes (λ n. node_in p.store n)
 
-pub all_answer : (p : PlanValue) → IsPlan p → AllAccepted p (length p.nodes) → plan_answer p ≡ ProvedGoal (tree_in p p.parts.goal)
-all_answer p is all = replayed_all (plan_nodes_in p) (plan_nodes_in p) (tree_in p p.parts.goal) each
+pub all_answer : (consts : Constants) (p : PlanValue) → IsPlan p → AllAccepted p (length p.nodes) → plan_answer consts p ≡ ProvedGoal consts (tree_in p p.parts.goal)
+all_answer consts p is all = replayed_all (plan_nodes_in p) (plan_nodes_in p) (ProvedGoal consts (tree_in p p.parts.goal)) each
   where
     each : (i : ℕ) → i < length (plan_nodes_in p) → verdict (plan_nodes_in p) (slice_index_or (plan_nodes_in p) i no_node) ≡ accepted
     each i h = let l : i < length p.nodes = omega (arith, as_many p) in accept_is p is i l ∙ all i l
 
-pub first_answer : (p : PlanValue) → IsPlan p → (k : ℕ) (w : Why) → FailsFirst p k w → plan_answer p ≡ FailedAt (node_at p k).name (node_at p k).rule w
-first_answer p is k w f =
-    replayed_to (plan_nodes_in p) (plan_nodes_in p) (tree_in p p.parts.goal) k w there each (accept_is p is k f.there ∙ f.cause)
+pub first_answer : (consts : Constants) (p : PlanValue) → IsPlan p → (k : ℕ) (w : Why) → FailsFirst p k w → plan_answer consts p ≡ FailedAt (node_at p k).name (node_at p k).rule w
+first_answer consts p is k w f =
+    replayed_to (plan_nodes_in p) (plan_nodes_in p) (ProvedGoal consts (tree_in p p.parts.goal)) k w there each (accept_is p is k f.there ∙ f.cause)
     ∙ ap (λ n. FailedAt n.name n.rule w) (node_is p k f.there)
   where
     there : k < length (plan_nodes_in p)
@@ -99,9 +100,9 @@ first_answer p is k w f =
 -- ---- lines
 
 -- a line for an answer has its status
-pub proved_status : (g : Term) (r : Result Line AllocError) → IfOk r (λ l. IsLineOf (ProvedGoal g) l.text.items l.status) → IfOk r (λ l. IsProblemStatus l.status)
-proved_status g (Ok l) h = inl h.status_is
-proved_status g (Err e) h = tt
+pub proved_status : (consts : Constants) (g : Term) (r : Result Line AllocError) → IfOk r (λ l. IsLineOf (ProvedGoal consts g) l.text.items l.status) → IfOk r (λ l. IsProblemStatus l.status)
+proved_status consts g (Ok l) h = inl h.status_is
+proved_status consts g (Err e) h = tt
 
 pub failed_status : (name : List ℕ) (rule : Rule) (w : Why) (r : Result Line AllocError) → IfOk r (λ l. IsLineOf (FailedAt name rule w) l.text.items l.status) → IfOk r (λ l. IsProblemStatus l.status)
 failed_status name rule w (Ok l) h = inr (inl h.status_is)
@@ -111,25 +112,26 @@ pub failed_proves : (name : List ℕ) (rule : Rule) (w : Why) (P : Type 0) (r : 
 failed_proves name rule w P (Ok l) h = λ e. absurd (omega (arith, h.status_is, e))
 failed_proves name rule w P (Err e) h = tt
 
+-- it is the same answer, whatever the goal's constants
+pub failed_answers : (p : PlanValue) → IsPlan p → (k : ℕ) (w : Why) → FailsFirst p k w → (r : Result Line AllocError) → IfOk r (λ l. IsLineOf (FailedAt (node_at p k).name (node_at p k).rule w) l.text.items l.status)
+    → IfOk r (λ l. (consts : Constants) → IsLineOf (plan_answer consts p) l.text.items l.status)
+failed_answers p is k w f (Ok l) h = λ consts. let Q : Answer → Type 0 = λ a. IsLineOf a l.text.items l.status in subst Q (sym (first_answer consts p is k w f)) h
+failed_answers p is k w f (Err e) h = tt
+
 pub proves : (P : Type 0) (r : Result Line AllocError) → P → IfOk r (λ l. l.status ≡ 0 → P)
 proves P (Ok l) h = λ e. h
 proves P (Err e) h = tt
 
 -- ---- the answer to a problem
 
-answered_by : (o : Option Proof) (nodes : List ProofNode) (goal : Term) → option_map nodes_of o ≡ Some nodes → proof_answer o goal ≡ replay_answer nodes goal
-answered_by None nodes goal e = absurd (none-some nodes e)
-answered_by (Some proof) nodes goal e = let same : nodes_of proof ≡ nodes = same_Some (nodes_of proof) nodes e in ap (λ ns. replay_answer ns goal) same
-
--- where there is no proof
-pub refused_by : (o : Option Proof) (goal : Term) → option_map nodes_of o ≡ None → ProofRefused ≡ proof_answer o goal
-refused_by None goal e = refl
-refused_by (Some proof) goal e = absurd (none-some (nodes_of proof) (sym e))
+answered_by : (o : Option Proof) (nodes : List ProofNode) (last : Answer) → option_map nodes_of o ≡ Some nodes → proof_answer o last ≡ replay_answer nodes last
+answered_by None nodes last e = absurd (none-some nodes e)
+answered_by (Some proof) nodes last e = let same : nodes_of proof ≡ nodes = same_Some (nodes_of proof) nodes e in ap (λ ns. replay_answer ns last) same
 
 -- to a proof file whose rule applications are a plan's
-pub answer_is : (problem : FirstProblem) (text all : List ℕ) (p : PlanValue) → proof_form problem text ≡ proof_form problem all → option_map nodes_of (proof_form problem text) ≡ Some (plan_nodes_in p) → tree_in p p.parts.goal ≡ problem.goal
-    → plan_answer p ≡ problem_answer problem all
-answer_is problem text all p same read goal =
-    ap (λ g. replay_answer (plan_nodes_in p) g) goal
-    ∙ sym (answered_by (proof_form problem text) (plan_nodes_in p) problem.goal read)
-    ∙ ap (λ o. proof_answer o problem.goal) same
+pub answer_is : (source : Source) (text all : List ℕ) (consts : Constants) (goal : Term) (p : PlanValue) → proof_form source text ≡ proof_form source all → option_map nodes_of (proof_form source text) ≡ Some (plan_nodes_in p) → tree_in p p.parts.goal ≡ goal
+    → plan_answer consts p ≡ proof_answer (proof_form source all) (ProvedGoal consts goal)
+answer_is source text all consts goal p same read is =
+    ap (λ g. replay_answer (plan_nodes_in p) (ProvedGoal consts g)) is
+    ∙ sym (answered_by (proof_form source text) (plan_nodes_in p) (ProvedGoal consts goal) read)
+    ∙ ap (λ o. proof_answer o (ProvedGoal consts goal)) same

@@ -1,11 +1,21 @@
 -- How a run of `check` ends, by its line.
-use Rattle.std.proofs.Common.{◌≡◌, ◌∙◌, ◌⊎◌, ℕ, List, Option, Some, None, refl, sym, ap, subst, inl, inr, arith}
+use Rattle.std.proofs.Common.{◌≡◌, ◌∙◌, ◌⊎◌, ℕ, List, [], Option, Some, Ok, Err, true, refl, sym, ap, subst, inl, inr, arith}
 use Rattle.std.specs.Io.KnownBytes.{append_known}
-use Rattle.std.proofs.lemmas.Option.{none-some}
-use Rattle.first_form.specs.GoalForm.{FirstProblem, goal_form}
-use Rattle.smt_cli.specs.Answers.{Answer, GoalRefused, problem_answer, status_of, text_of}
-use Rattle.smt_cli.specs.Checking.{Checks, IsNotRefused}
-use Rattle.smt_cli.specs.Follows.{IsCheckStatus, IsLineStatus, IsProblemStatus}
+use Rattle.hol_terms.specs.Derivable.{Derivable}
+use Rattle.hol_terms.specs.TermStore.{term_tree}
+use Rattle.goal_text.specs.declared.fault.GoalFault.{GoalFault}
+use Rattle.goal_text.specs.declared.problem.Problem.{Problem}
+use Rattle.goal_text.specs.GoalRead.{FirstFault, GoalProblem, GoalRead, goal_read}
+use Rattle.goal_text.specs.declared.fault.GoalFailure.{GoalFailure}
+use Rattle.goal_text.specs.declared.fault.GoalFailure.TheVariants.{Refused}
+use Rattle.goal_text.specs.ItemsIn.{IsRead, Refuses, Says}
+use Rattle.goal_text.specs.Read.{Read}
+use Rattle.goal_text.proofs.KeptLemmas.{same_Ok}
+use Rattle.smt_cli.specs.Answers.{Answer, GoalRefused, GoalUnbuilt, problem_answer, status_of, text_of}
+use Rattle.smt_cli.specs.Checking.{Checks, IsTaken}
+use Rattle.smt_cli.specs.Follows.{Follows, IsCheckStatus, IsLineStatus, IsProblemStatus}
+use Rattle.smt_cli.specs.Problems.{FollowsIn, answer_in, is_unbuilt_in}
+use Rattle.smt_cli.specs.Unbuilt.{is_unbuilt}
 use Rattle.smt_cli.specs.Writing.{Ends, EndsSomehow, IsLine, IsLineOf, Writes}
 
 -- a line that is an answer's is a line
@@ -21,11 +31,7 @@ pub line_ends_somehow : {before after : Option (List ℕ)} (text : List ℕ) (st
 line_ends_somehow {before} {after} text status result (a, is) w = (a, line_ends a text status before after result is w)
 
 pub early_ends : (before : Option (List ℕ)) (result : ℕ) → (result ≡ 5) ⊎ (result ≡ 7) → EndsSomehow before before result
-early_ends before result e = (GoalRefused, inr (e, refl))
-
--- a goal file that is read isn't refused
-pub not_refused_where_read : (goal : Option (List ℕ)) (read : Option FirstProblem) (p : FirstProblem) → ((g : List ℕ) → goal ≡ Some g → read ≡ goal_form g) → read ≡ Some p → IsNotRefused goal
-not_refused_where_read goal read p same some = λ g told none. none-some p (sym none ∙ sym (same g told) ∙ some)
+early_ends before result e = (GoalUnbuilt, inr (e, refl))
 
 written_status : (text : List ℕ) (status : ℕ) (before after : Option (List ℕ)) (result : ℕ) → Writes text status before after result → (result ≡ status) ⊎ (result ≡ 6)
 written_status text status before after result (inl w) = inl w.0
@@ -43,14 +49,16 @@ not_refused status result is (inr e) three = omega arith
 
 -- a run that writes a line
 pub line_checks : (goal proof before after : Option (List ℕ)) (result : ℕ) (text : List ℕ) (status : ℕ) → Writes text status before after result → IsLineStatus status
-    → ((g : List ℕ) → goal ≡ Some g → goal_form g ≡ None → IsLineOf GoalRefused text status)
-    → ((g : List ℕ) (p : FirstProblem) → goal ≡ Some g → goal_form g ≡ Some p → IsProblemStatus status)
-    → ((g : List ℕ) (p : FirstProblem) (h : List ℕ) → goal ≡ Some g → goal_form g ≡ Some p → proof ≡ Some h → IsLineOf (problem_answer p h) text status)
+    → ((g : List ℕ) (fault : GoalFault) → goal ≡ Some g → FirstFault g fault → IsLineOf (GoalRefused fault) text status)
+    → ((g : List ℕ) (p : GoalProblem) → goal ≡ Some g → GoalRead g p → is_unbuilt p.facts p.goal ≡ true → IsLineOf GoalUnbuilt text status)
+    → ((g : List ℕ) (p : GoalProblem) → goal ≡ Some g → IsTaken g p → IsProblemStatus status)
+    → ((g : List ℕ) (p : GoalProblem) (h : List ℕ) → goal ≡ Some g → IsTaken g p → proof ≡ Some h → IsLineOf (problem_answer p h) text status)
     → Checks goal proof before after result
-line_checks goal proof before after result text status w is refused read answered = record {
+line_checks goal proof before after result text status w is refused unbuilt taken answered = record {
   status = check_status status result is (written_status text status before after result w);
-  refused = λ g told none. line_ends GoalRefused text status before after result (refused g told none) w;
-  in_form = λ g p told some three. not_refused status result (read g p told some) (written_status text status before after result w) three;
+  refused = λ g fault told first. line_ends (GoalRefused fault) text status before after result (refused g fault told first) w;
+  unbuilt = λ g p told read not_yet. line_ends GoalUnbuilt text status before after result (unbuilt g p told read not_yet) w;
+  taken = λ g p told some three. not_refused status result (taken g p told some) (written_status text status before after result w) three;
   answered = λ g p h told some other. line_ends (problem_answer p h) text status before after result (answered g p h told some other) w;
 }
 
@@ -58,8 +66,9 @@ line_checks goal proof before after result text status w is refused read answere
 pub early_checks : (goal proof before : Option (List ℕ)) (result : ℕ) → (result ≡ 5) ⊎ (result ≡ 7) → Checks goal proof before before result
 early_checks goal proof before result e = record {
   status = status e;
-  refused = λ g told none. inr (e, refl);
-  in_form = λ g p told some three. in_form e three;
+  refused = λ g fault told first. inr (e, refl);
+  unbuilt = λ g p told read not_yet. inr (e, refl);
+  taken = λ g p told some three. taken e three;
   answered = λ g p h told some other. inr (e, refl);
 }
   where
@@ -67,6 +76,46 @@ early_checks goal proof before result e = record {
     status (inl f) = inr (inl f)
     status (inr f) = inr (inr (inr f))
 
-    in_form : (result ≡ 5) ⊎ (result ≡ 7) → result ≡ 3 → ⊥
-    in_form (inl f) three = omega arith
-    in_form (inr f) three = omega arith
+    taken : (result ≡ 5) ⊎ (result ≡ 7) → result ≡ 3 → ⊥
+    taken (inl f) three = omega arith
+    taken (inr f) three = omega arith
+
+-- ---- what a goal file is read as, by its text or so much of it
+
+-- a failure that is a fault is the first
+pub refuses : (text : List ℕ) (fault : GoalFault) (failure : GoalFailure) → failure ≡ Refused fault → Refuses text failure → FirstFault text fault
+refuses text fault failure e h = let P : GoalFailure → Type 0 = Refuses text in subst P e h
+
+-- a problem that was read is the one that the file says
+pub says_read : (text all : List ℕ) (problem : Problem) (p : GoalProblem) → IsRead text problem → goal_read text ≡ goal_read all → GoalRead all p → Says problem p
+says_read text all problem p is cut read = let P : GoalProblem → Type 0 = Says problem in subst P (same_Ok is.said p (sym is.read ∙ cut ∙ read)) is.says
+
+-- where a problem was read there is no fault
+pub no_fault_read : (text all : List ℕ) (problem : Problem) (fault : GoalFault) → IsRead text problem → goal_read text ≡ goal_read all → FirstFault all fault → ⊥
+no_fault_read text all problem fault is cut first = ok_err (sym is.read ∙ cut ∙ first)
+  where
+    ok_err : ◌≡◌ {A = Read GoalProblem} (Ok is.said) (Err fault) → ⊥
+    ok_err k = cc
+
+-- where a fault was met there is no problem, and it is the first fault
+pub no_problem_read : (text all : List ℕ) (fault : GoalFault) (p : GoalProblem) → FirstFault text fault → goal_read text ≡ goal_read all → GoalRead all p → ⊥
+no_problem_read text all fault p first cut read = ok_err (sym read ∙ sym cut ∙ first)
+  where
+    ok_err : ◌≡◌ {A = Read GoalProblem} (Ok p) (Err fault) → ⊥
+    ok_err k = cc
+
+pub same_fault : (text all : List ℕ) (met fault : GoalFault) → FirstFault text met → goal_read text ≡ goal_read all → FirstFault all fault → met ≡ fault
+same_fault text all met fault one cut first = same_Err (sym one ∙ cut ∙ first)
+  where
+    same_Err : ◌≡◌ {A = Read GoalProblem} (Err met) (Err fault) → met ≡ fault
+    same_Err k = cc
+
+module _ (problem : Problem) (p : GoalProblem) (says : Says problem p) where
+  pub unbuilt_said : is_unbuilt_in problem ≡ is_unbuilt p.facts p.goal
+  unbuilt_said = let f = says.facts in let g = says.goal in rw (f, g) refl
+
+  pub answer_said : (text : List ℕ) → answer_in problem text ≡ problem_answer p text
+  answer_said text = let f = says.facts in let g = says.goal in let c = says.consts in rw (f, g, c) refl
+
+  pub follows_said : FollowsIn problem → Follows p
+  follows_said d = subst (λ g. Derivable p.facts [] g) says.goal (subst (λ fs. Derivable fs [] (term_tree problem.base problem.goal)) says.facts d)

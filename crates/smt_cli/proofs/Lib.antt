@@ -3,3 +3,5 @@ pub mod TextLemmas
 pub mod AnswerLemmas
 pub mod CheckLemmas
 pub mod WordLemmas
+pub mod ConstantLemmas
+pub mod LambdaLemmas

@@ -4,7 +4,7 @@ use Rattle.std.specs.Prelude.{codes, false, nat_eq, slice_index_or}
 use Rattle.std.specs.Io.KnownBytes.{append_known}
 use Rattle.std.proofs.lemmas.List.{append_cancel_left, take-append-drop}
 use Rattle.std.proofs.lemmas.Option.{same_Some}
-use Rattle.smt_cli.specs.Answers.{Answer, GoalRefused, ProofRefused, FailedAt, ProvedGoal, status_of, text_of}
+use Rattle.smt_cli.specs.Answers.{Answer, GoalRefused, GoalUnbuilt, ProofRefused, FailedAt, ProvedGoal, status_of, text_of}
 use Rattle.smt_cli.specs.CommandLine.{usage_text}
 use Rattle.smt_cli.specs.Writing.{IsLine, IsLineOf, SaysProved, Writes}
 
@@ -36,10 +36,11 @@ byte i text = slice_index_or text i 0
 
 -- the other lines begin with other bytes
 proved_only : (a : Answer) → Begins (text_of a) → status_of a ≡ 0
-proved_only GoalRefused b = absurd (apart 103 112 (ap (byte 0) b.1) refl)
+proved_only (GoalRefused fault) b = absurd (apart 103 112 (ap (byte 0) b.1) refl)
+proved_only GoalUnbuilt b = absurd (apart 103 112 (ap (byte 0) b.1) refl)
 proved_only ProofRefused b = absurd (apart 111 118 (ap (byte 3) b.1) refl)
 proved_only (FailedAt name rule why) b = absurd (apart 102 112 (ap (byte 0) b.1) refl)
-proved_only (ProvedGoal goal) b = refl
+proved_only (ProvedGoal consts goal) b = refl
 
 pub said_proved : (text : List ℕ) (status : ℕ) (before after : Option (List ℕ)) (result : ℕ) → IsLine text status → Writes text status before after result → SaysProved before after → status ≡ 0
 said_proved text status before after result (a, is) w said =

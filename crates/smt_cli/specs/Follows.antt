@@ -1,15 +1,15 @@
 -- What status 0 says.
-use Rattle.std.specs.Prelude.{◌≡◌, ◌⊎◌, ℕ, List, [], Some}
+use Rattle.std.specs.Prelude.{◌≡◌, ◌⊎◌, ℕ, List, []}
 use Rattle.hol_terms.specs.Derivable.{Derivable}
-use Rattle.first_form.specs.GoalForm.{FirstProblem, goal_form}
+use Rattle.goal_text.specs.GoalRead.{GoalProblem, GoalRead}
 
 -- the goal of a problem is derivable from its facts, without hypotheses
-abbrev pub Follows : FirstProblem → Type 0
+abbrev pub Follows : GoalProblem → Type 0
 Follows problem = Derivable problem.facts [] problem.goal
 
 -- the text is a goal file, and its goal is derivable from its facts, without hypotheses
 abbrev pub GoalFollows : List ℕ → Type 0
-GoalFollows text = (problem : FirstProblem) × (goal_form text ≡ Some problem) × Follows problem
+GoalFollows text = (problem : GoalProblem) × GoalRead text problem × Follows problem
 
 -- the status of a line that is printed for a problem: proved, a step failed, or the proof file is refused
 abbrev pub IsProblemStatus : ℕ → Type 0

@@ -1,7 +1,10 @@
 pub mod CommandLine
+pub mod Unbuilt
+pub mod LambdaWalk
 pub mod Answers
 pub mod Writing
 pub mod Follows
 pub mod Checking
 pub mod Outcomes
 pub mod PlanAnswers
+pub mod Problems

@@ -1,17 +1,23 @@
 //! The command `check`: from the bytes of two files to one line.
-ghost use Rattle.std.specs.Prelude.{◌≡◌, ◌⊎◌, ◌≤◌, ℕ, List, Some, None, IfOk, IsErrOf};
+ghost use Rattle.std.specs.Prelude.{◌≡◌, ◌⊎◌, ◌≤◌, ℕ, List, Some, true, false, IfOk, IsErrOf};
 ghost use Rattle.smt_io.specs.Faults.{Rose};
-ghost use Rattle.first_form.specs.GoalForm.{FirstProblem, goal_form};
-ghost use Rattle.first_form.specs.Problem.{IsProblem, problem_in};
+ghost use Rattle.goal_text.specs.declared.fault.GoalFault.{GoalFault as Fault};
+ghost use Rattle.goal_text.specs.GoalRead.{FirstFault, GoalProblem, GoalRead, goal_read};
+ghost use Rattle.goal_text.specs.ItemsIn.{IsProblem};
 ghost use Rattle.first_form.specs.ProofForm.{proof_form};
-ghost use Rattle.smt_cli.specs.Answers.{GoalRefused, problem_answer};
-ghost use Rattle.smt_cli.specs.Checking.{Checks, IsNotRefused};
-ghost use Rattle.smt_cli.specs.Follows.{Follows, GoalFollows, IsLineStatus, IsProblemStatus};
+ghost use Rattle.first_form.specs.Source.{Source};
+ghost use Rattle.smt_cli.specs.Answers.{GoalRefused, GoalUnbuilt, problem_answer};
+ghost use Rattle.smt_cli.specs.Checking.{Checks, IsNotRefused, IsTaken};
+ghost use Rattle.smt_cli.specs.Follows.{GoalFollows, IsLineStatus, IsProblemStatus};
+ghost use Rattle.smt_cli.specs.Problems.{FollowsIn, answer_in, is_unbuilt_in};
+ghost use Rattle.smt_cli.specs.Unbuilt as unbuilt;
 ghost use Rattle.smt_cli.specs.Writing.{EndsSomehow, IsLine, IsLineOf, SaysProved, Writes};
 
-use crate::line::{Line, goal_refused, proof_refused};
+use crate::line::{Line, goal_refused, goal_unbuilt, proof_refused};
 use crate::replay_line::replay_line;
-use first_form::{FormFailure, Problem, read_goal, read_proof};
+use crate::unbuilt::is_unbuilt;
+use first_form::{FormFailure, read_proof};
+use goal_text::{GoalFailure, Problem, read_goal};
 use hol_types::Bytes;
 use smt_io::{Files, LoadFault, Sink, load, write_all};
 use std::alloc::{AllocError, Global};
@@ -44,13 +50,14 @@ impl From<AllocError> for NoLine {
 /// - 0: `proved` and the goal. Then the goal is derivable from the goal file's facts, without hypotheses. So it is also where
 ///   just the word `proved` could be written.
 /// - 1: `failed at`, the name of the first node that its rule doesn't accept, the rule, and the cause.
-/// - 3: `goal refused`: the goal file is outside its form.
+/// - 3: `goal refused at`, the byte and the kind of the goal file's first fault; or `goal refused at 0: Unbuilt`: a fact holds
+///   a type variable, or a fact or the goal a lambda that isn't a quantifier's argument.
 /// - 4: `proof refused`: the proof file is outside its form.
 /// - 5: a file couldn't be read, and nothing is written.
 /// - 6: the line couldn't be written whole.
 /// - 7: memory ran out, and nothing is written.
 ///
-/// The goal file is read first; the proof file is read only where the goal file is in its form.
+/// The goal file is read first; the proof file is read only where the goal file isn't refused.
 pub fn check_one<F: Files, K: Sink>(
     alloc: Global,
     goal: &str,
@@ -89,9 +96,10 @@ pub fn print<K: Sink>(out: &mut K, line: &Line) -> u8
 #[tactic(auto, using(crate::proofs::CheckLemmas::is_line_of))]
 fn line<F: Files>(alloc: Global, goal: &str, proof: &str, files: &mut F) -> Result<Line, NoLine>
     ensures proved { IfOk result (λ line. line.status ≡ 0 → (g : List ℕ) → F.contents files.old goal.now ≡ Some g → GoalFollows g) }
-    ensures goal_refused { IfOk result (λ line. (g : List ℕ) → F.contents files.old goal.now ≡ Some g → goal_form g ≡ None → IsLineOf GoalRefused line.text.items line.status) }
-    ensures goal_read { IfOk result (λ line. (g : List ℕ) (p : FirstProblem) → F.contents files.old goal.now ≡ Some g → goal_form g ≡ Some p → IsProblemStatus line.status) }
-    ensures answered { IfOk result (λ line. (g : List ℕ) (p : FirstProblem) (h : List ℕ) → F.contents files.old goal.now ≡ Some g → goal_form g ≡ Some p → F.contents files.old proof.now ≡ Some h → IsLineOf (problem_answer p h) line.text.items line.status) }
+    ensures refused { IfOk result (λ line. (g : List ℕ) (fault : Fault) → F.contents files.old goal.now ≡ Some g → FirstFault g fault → IsLineOf (GoalRefused fault) line.text.items line.status) }
+    ensures unbuilt { IfOk result (λ line. (g : List ℕ) (p : GoalProblem) → F.contents files.old goal.now ≡ Some g → GoalRead g p → unbuilt.is_unbuilt p.facts p.goal ≡ true → IsLineOf GoalUnbuilt line.text.items line.status) }
+    ensures taken { IfOk result (λ line. (g : List ℕ) (p : GoalProblem) → F.contents files.old goal.now ≡ Some g → IsTaken g p → IsProblemStatus line.status) }
+    ensures answered { IfOk result (λ line. (g : List ℕ) (p : GoalProblem) (h : List ℕ) → F.contents files.old goal.now ≡ Some g → IsTaken g p → F.contents files.old proof.now ≡ Some h → IsLineOf (problem_answer p h) line.text.items line.status) }
     ensures status { IfOk result (λ line. IsLineStatus line.status) }
     ensures is_line { IfOk result (λ line. IsLine line.text.items line.status) }
     ensures unread { IsErrOf result NoLine.Unread → Rose (F.faults files.old goal.now) (F.faults files.new goal.now) ⊎ (Rose (F.faults files.old proof.now) (F.faults files.new proof.now) × IsNotRefused (F.contents files.old goal.now)) }
@@ -100,15 +108,42 @@ fn line<F: Files>(alloc: Global, goal: &str, proof: &str, files: &mut F) -> Resu
     let text = loaded(alloc, goal, files)?;
     match read_goal(alloc, text.as_slice()) {
         Ok(problem) => {
-            let line = problem_line(alloc, problem, proof, files)?;
+            let line = line_for(alloc, problem, proof, files)?;
             Ok(line)
         }
-        Err(FormFailure::Refused) => {
-            let line = goal_refused(alloc)?;
+        Err(GoalFailure::Refused(fault)) => {
+            let line = goal_refused(alloc, fault)?;
             Ok(line)
         }
-        Err(FormFailure::Memory) => Err(NoLine::Memory),
+        Err(GoalFailure::Memory) => Err(NoLine::Memory),
     }
+}
+
+/// The line for what a goal file says and a proof file, which isn't read where the problem isn't taken.
+#[tactic(auto, using(crate::proofs::CheckLemmas::is_line_of))]
+fn line_for<F: Files>(
+    alloc: Global,
+    problem: Problem,
+    proof: &str,
+    files: &mut F,
+) -> Result<Line, NoLine>
+    requires { IsProblem problem }
+    ensures proved { IfOk result (λ line. line.status ≡ 0 → FollowsIn problem) }
+    ensures unbuilt { IfOk result (λ line. is_unbuilt_in problem ≡ true → IsLineOf GoalUnbuilt line.text.items line.status) }
+    ensures taken { IfOk result (λ line. is_unbuilt_in problem ≡ false → IsProblemStatus line.status) }
+    ensures answered { IfOk result (λ line. (h : List ℕ) → is_unbuilt_in problem ≡ false → F.contents files.old proof.now ≡ Some h → IsLineOf (answer_in problem h) line.text.items line.status) }
+    ensures status { IfOk result (λ line. IsLineStatus line.status) }
+    ensures is_line { IfOk result (λ line. IsLine line.text.items line.status) }
+    ensures unread { IsErrOf result NoLine.Unread → Rose (F.faults files.old proof.now) (F.faults files.new proof.now) × (is_unbuilt_in problem ≡ false) }
+    ensures contents_stay { F.contents files.new ≡ F.contents files.old }
+    ensures counts_stay { (other : List ℕ) → F.faults files.old other ≤ F.faults files.new other }
+{
+    if is_unbuilt(&problem)? {
+        let line = goal_unbuilt(alloc)?;
+        return Ok(line);
+    }
+    let line = problem_line(alloc, problem, proof, files)?;
+    Ok(line)
 }
 
 /// The line for a problem and a proof file.
@@ -120,8 +155,8 @@ fn problem_line<F: Files>(
     files: &mut F,
 ) -> Result<Line, NoLine>
     requires { IsProblem problem }
-    ensures proved { IfOk result (λ line. line.status ≡ 0 → Follows (problem_in problem)) }
-    ensures answered { IfOk result (λ line. (h : List ℕ) → F.contents files.old proof.now ≡ Some h → IsLineOf (problem_answer (problem_in problem) h) line.text.items line.status) }
+    ensures proved { IfOk result (λ line. line.status ≡ 0 → FollowsIn problem) }
+    ensures answered { IfOk result (λ line. (h : List ℕ) → F.contents files.old proof.now ≡ Some h → IsLineOf (answer_in problem h) line.text.items line.status) }
     ensures status { IfOk result (λ line. IsProblemStatus line.status) }
     ensures is_line { IfOk result (λ line. IsLine line.text.items line.status) }
     ensures unread { IsErrOf result NoLine.Unread → Rose (F.faults files.old proof.now) (F.faults files.new proof.now) }
@@ -130,8 +165,8 @@ fn problem_line<F: Files>(
 {
     let text = loaded(alloc, proof, files)?;
     match read_proof(alloc, problem, text.as_slice()) {
-        Ok(plan) => {
-            let line = replay_line(alloc, plan)?;
+        Ok((plan, consts)) => {
+            let line = replay_line(alloc, plan, consts)?;
             Ok(line)
         }
         Err(FormFailure::Refused) => {
@@ -144,8 +179,8 @@ fn problem_line<F: Files>(
 
 /// The bytes of a file, or so many of one that is too long for both forms that it is too long itself.
 fn loaded<F: Files>(alloc: Global, name: &str, files: &mut F) -> Result<Bytes, NoLine>
-    ensures goal { IfOk result (λ text. (all : List ℕ) → F.contents files.old name.now ≡ Some all → goal_form text ≡ goal_form all) }
-    ensures proof { IfOk result (λ text. (all : List ℕ) (p : FirstProblem) → F.contents files.old name.now ≡ Some all → proof_form p text ≡ proof_form p all) }
+    ensures goal { IfOk result (λ text. (all : List ℕ) → F.contents files.old name.now ≡ Some all → goal_read text ≡ goal_read all) }
+    ensures proof { IfOk result (λ text. (all : List ℕ) (source : Source) → F.contents files.old name.now ≡ Some all → proof_form source text ≡ proof_form source all) }
     ensures unread { IsErrOf result NoLine.Unread → Rose (F.faults files.old name.now) (F.faults files.new name.now) }
     ensures contents_stay { F.contents files.new ≡ F.contents files.old }
     ensures counts_stay { (other : List ℕ) → F.faults files.old other ≤ F.faults files.new other }

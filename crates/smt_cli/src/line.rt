@@ -3,11 +3,14 @@ ghost use Rattle.std.specs.Prelude.{◌≡◌, ◌++◌, IfOk, OnOk};
 ghost use Rattle.proof_plan.specs.Rules.{rule_name};
 ghost use Rattle.proof_plan.specs.WhyText.{why_text};
 ghost use Rattle.hol_terms.specs.TermStore.{term_tree};
-ghost use Rattle.smt_cli.specs.Answers.{GoalRefused, ProofRefused, FailedAt, ProvedGoal};
+ghost use Rattle.goal_text.specs.ItemsIn.{IsProblem, declared_in};
+ghost use Rattle.smt_cli.specs.Answers.{GoalRefused, GoalUnbuilt, ProofRefused, FailedAt, ProvedGoal};
 ghost use Rattle.smt_cli.specs.Writing.{IsLineOf};
 
 use discharge::Proved;
-use first_form::append_goal;
+use goal_print::print_goal;
+use goal_text::{Declared, GoalFault, Problem};
+use hol_types::{Bytes, List};
 use proof_plan::{PlanNode, Why, append_why};
 use std::alloc::{AllocError, Global};
 
@@ -27,11 +30,24 @@ fn text_of(alloc: Global, text: &str) -> Result<Vec<u8>, AllocError>
     Ok(bytes)
 }
 
-/// The goal file is outside its form.
-pub fn goal_refused(alloc: Global) -> Result<Line, AllocError>
-    ensures { IfOk result (λ line. IsLineOf GoalRefused line.text.items line.status) }
+/// The goal file has this fault, its first.
+pub fn goal_refused(alloc: Global, fault: GoalFault) -> Result<Line, AllocError>
+    ensures { IfOk result (λ line. IsLineOf (GoalRefused fault) line.text.items line.status) }
 {
-    let text = text_of(alloc, "goal refused\n")?;
+    let mut text = text_of(alloc, "goal refused at ")?;
+    let at = format!(in alloc; "{}", fault.at)?;
+    text.extend_from_slice(at.as_bytes())?;
+    text.extend_from_slice(b": ".as_slice())?;
+    text.extend_from_slice(fault.kind.name().as_bytes())?;
+    text.push(b'\n')?;
+    Ok(Line { text, status: 3 })
+}
+
+/// The goal file says a problem that isn't taken yet.
+pub fn goal_unbuilt(alloc: Global) -> Result<Line, AllocError>
+    ensures { IfOk result (λ line. IsLineOf GoalUnbuilt line.text.items line.status) }
+{
+    let text = text_of(alloc, "goal refused at 0: Unbuilt\n")?;
     Ok(Line { text, status: 3 })
 }
 
@@ -57,12 +73,23 @@ pub fn failed_at(alloc: Global, node: &PlanNode, why: Why) -> Result<Line, Alloc
     Ok(Line { text, status: 1 })
 }
 
-/// The goal is proved.
-pub fn proved(alloc: Global, proved: &Proved) -> Result<Line, AllocError>
-    ensures { IfOk result (λ line. IsLineOf (ProvedGoal (term_tree proved.now.store proved.now.goal)) line.text.items line.status) }
+/// The goal is proved, of which these are the declared constants.
+pub fn proved(alloc: Global, proved: Proved, consts: List<Declared>) -> Result<Line, AllocError>
+    requires { IsProblem (record { base = proved.store; consts = consts; facts = proved.facts; goal = proved.goal }) }
+    ensures { IfOk result (λ line. IsLineOf (ProvedGoal (declared_in proved.store consts) (term_tree proved.store proved.goal)) line.text.items line.status) }
 {
-    let mut text = text_of(alloc, "proved ")?;
-    append_goal(alloc, proved.base(), proved.goal(), &mut text)?;
+    let (base, facts, goal) = proved.into_parts();
+    let problem = Problem {
+        base: base.thaw(),
+        consts,
+        facts,
+        goal,
+    };
+    let mut text = Bytes::new(text_of(alloc, "proved ")?);
+    print_goal(alloc, &problem, &mut text)?;
     text.push(b'\n')?;
-    Ok(Line { text, status: 0 })
+    Ok(Line {
+        text: text.into_vec(),
+        status: 0,
+    })
 }

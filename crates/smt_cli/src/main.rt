@@ -12,6 +12,7 @@ mod replay_line;
 mod run;
 #[cfg(test)]
 mod tests;
+mod unbuilt;
 mod words;
 
 use program::smt;

@@ -65,7 +65,7 @@ fn words(alloc: Global, text: &str) -> Result<Vec<String>, AllocError> {
 fn answers(rt: HostRuntime) -> Result<(), Fail> {
     let alloc = rt.alloc();
     // The words, the goal file, the proof file, the status, and what is printed.
-    let rows: [(&str, &str, &str, u8, &str); 16] = [
+    let rows: [(&str, &str, &str, u8, &str); 17] = [
         ("check goal proof", GOAL, PROOF, 0, "proved q\n"),
         (
             "check goal proof",
@@ -76,14 +76,33 @@ fn answers(rt: HostRuntime) -> Result<(), Fail> {
         ),
         (
             "check goal proof",
-            "(const p Bool)(goal (and p p))",
+            "(const p Bool)(goal (and p x))",
             PROOF,
             3,
-            "goal refused\n",
+            "goal refused at 27: UnknownName\n",
         ),
         // The goal file is read first.
-        ("check goal none", "", PROOF, 3, "goal refused\n"),
-        ("check proof goal", GOAL, PROOF, 3, "goal refused\n"),
+        (
+            "check goal none",
+            "",
+            PROOF,
+            3,
+            "goal refused at 0: NoGoal\n",
+        ),
+        (
+            "check goal none",
+            "(fact (= (lambda ((x Int)) x) (lambda ((x Int)) x)))(goal true)",
+            PROOF,
+            3,
+            "goal refused at 0: Unbuilt\n",
+        ),
+        (
+            "check proof goal",
+            GOAL,
+            PROOF,
+            3,
+            "goal refused at 0: Syntax\n",
+        ),
         ("check goal proof", GOAL, "", 4, "proof refused\n"),
         (
             "check goal proof",

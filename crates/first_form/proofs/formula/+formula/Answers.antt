@@ -35,20 +35,20 @@ pub formula_at-returns-in_err-parts-clause-read : goal.formula_at-returns-in_err
 formula_at-returns-in_err-parts-clause-read t c =
     let p = err_from_is_err_and c.from_residual.result c.from_residual.ensures.1 in
     let l = c.args.lexicon.now in
-    rw (p.1, p.2) (formula-fails l.spelling (names_of l.constants) _ _ _ _ _ c.in-Some-parts_at.ensures.0 c.in_err-parts.field-0.0 c.in-Some-next.ensures.0 c.in_err-parts.ensures.read)
+    rw (p.1, p.2) (formula-fails (names_of l.constants) _ _ _ _ _ c.in-Some-parts_at.ensures.0 c.in_err-parts.field-0.0 c.in-Some-next.ensures.0 c.in_err-parts.ensures.read)
 
 pub formula_at-returns-in_err-t-clause-read : goal.formula_at-returns-in_err-t-clause-read
 formula_at-returns-in_err-t-clause-read t c =
     let p = err_from_is_err_and c.from_residual-in_err-t.result c.from_residual-in_err-t.ensures.1 in
     let l = c.args.lexicon.now in
-    let is = formula-built l.spelling (names_of l.constants) _ _ _ _ _ c.in-Some-parts_at.ensures.0 c.text_at.result.now _ c.in-Some-next.ensures.0 c.text_at.ensures c.in_ok-parts.ensures.read in
+    let is = formula-built (names_of l.constants) _ _ _ _ _ c.in-Some-parts_at.ensures.0 c.text_at.result.now _ c.in-Some-next.ensures.0 c.text_at.ensures c.in_ok-parts.ensures.read in
     let P : Option Term → Type 0 = Fails c.in_err-t.field-0.0 in
     rw (p.1, p.2) (subst P (sym is) c.in_err-t.ensures.read)
 
 pub formula_at-returns-clause-read : goal.formula_at-returns-clause-read
 formula_at-returns-clause-read t c =
     let l = c.args.lexicon.now in
-    formula-built l.spelling (names_of l.constants) _ _ _ _ _ c.in-Some-parts_at.ensures.0 c.text_at.result.now _ c.in-Some-next.ensures.0 c.text_at.ensures c.in_ok-parts.ensures.read
+    formula-built (names_of l.constants) _ _ _ _ _ c.in-Some-parts_at.ensures.0 c.text_at.result.now _ c.in-Some-next.ensures.0 c.text_at.ensures c.in_ok-parts.ensures.read
     ∙ c.in_ok-t.ensures.read
 
 pub formulas_at-returns-in_err-t-clause-read : goal.formulas_at-returns-in_err-t-clause-read
@@ -56,7 +56,7 @@ formulas_at-returns-in_err-t-clause-read t c =
     let p = err_from_is_err_and c.from_residual.result c.from_residual.ensures.1 in
     let l = c.args.lexicon.now in
     let inv = c.loop-after.invariant in
-    rw (p.1, p.2) (parts_fail l.spelling (names_of l.constants) _ _ _ inv.read c.in_err-t.field-0.0 _ _ c.in-Some.ensures.0 c.in_err-t.ensures.read)
+    rw (p.1, p.2) (parts_fail (names_of l.constants) _ _ _ inv.read c.in_err-t.field-0.0 _ _ c.in-Some.ensures.0 c.in_err-t.ensures.read)
 
 pub formulas_at-loop-after-preserved : goal.formulas_at-loop-after-preserved
 formulas_at-loop-after-preserved t c =
@@ -67,7 +67,7 @@ formulas_at-loop-after-preserved t c =
     let k = c.in_ok-t.ensures.keeps in
     let ts = c.loop-after.formulas.items in
     let x = c.in_ok-t.t in
-    let step = parts_step l.spelling (names_of l.constants) _ _ _ inv.read _ _ (term_tree u x) c.in-Some.ensures.0 c.in_ok-t.ensures.read in
+    let step = parts_step (names_of l.constants) _ _ _ inv.read _ _ (term_tree u x) c.in-Some.ensures.0 c.in_ok-t.ensures.read in
     record {
       run = search rules;
       from = search rules;
@@ -80,4 +80,4 @@ formulas_at-loop-after-preserved t c =
 pub formulas_at-returns-clause-read : goal.formulas_at-returns-clause-read
 formulas_at-returns-clause-read t c =
     let l = c.args.lexicon.now in
-    parts_done l.spelling (names_of l.constants) _ _ _ c.loop-after.invariant.read c.in_default.ensures
+    parts_done (names_of l.constants) _ _ _ c.loop-after.invariant.read c.in_default.ensures

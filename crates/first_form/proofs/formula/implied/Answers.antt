@@ -1,7 +1,8 @@
 use Rattle.std.proofs.Common.{◌≡◌, ◌∙◌, ap, subst, List, ℕ, rules, ◌++◌, ◌∷◌, []}
 use Rattle.hol_terms.proofs.KeepsLemmas.{keeps_trans}
 use Rattle.first_form.specs.Formulas.{implication_of}
-use Rattle.first_form.specs.Lexicon.{HaveFormulas, terms_at}
+use Rattle.goal_text.specs.Scope.{terms_at}
+use Rattle.goal_text.specs.Sentences.{HaveSentences}
 use Rattle.first_form.proofs.FormulaLemmas.{under_start, under_step}
 use Rattle.first_form.proofs.LexiconLemmas.{formulas_front, formulas_kept, lexicon_kept}
 use Rattle.first_form.proofs.formula.implied.Goals as goal
@@ -9,7 +10,7 @@ use Rattle.first_form.proofs.formula.implied.Goals as goal
 pub loop-a-init : goal.loop-a-init
 loop-a-init c =
     let s = c.args.base.now in
-    let P : List ℕ → Type 0 = HaveFormulas s in
+    let P : List ℕ → Type 0 = HaveSentences s in
     let ts = c.pop.new.self.items in
     let split : c.args.parts.items ≡ ts ++ c.in-Some.last ∷ [] = c.in-Some.ensures.items in
     let both = formulas_front s ts c.in-Some.last (subst P split c.requires.parts) in
@@ -24,14 +25,14 @@ loop-a-init c =
 pub implies-requires-clause-premise : goal.implies-requires-clause-premise
 implies-requires-clause-premise c =
     let s = c.loop-a.base in
-    let P : List ℕ → Type 0 = HaveFormulas s in
+    let P : List ℕ → Type 0 = HaveSentences s in
     (formulas_front s c.pop-in-loop-a.new.self.items c.in-Some-pop.a (subst P c.in-Some-pop.ensures.items c.loop-a.invariant.premises)).1
 
 pub loop-a-preserved : goal.loop-a-preserved
 loop-a-preserved c =
     let s = c.loop-a.base in
     let u = c.implies.new.base in
-    let P : List ℕ → Type 0 = HaveFormulas s in
+    let P : List ℕ → Type 0 = HaveSentences s in
     let ts = c.pop-in-loop-a.new.self.items in
     let a = c.in-Some-pop.a in
     let inv = c.loop-a.invariant in

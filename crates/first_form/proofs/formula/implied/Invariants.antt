@@ -1,7 +1,9 @@
 use Rattle.std.proofs.Common.{◌≡◌, Some, length}
 use Rattle.hol_terms.specs.TermStore.{term_tree, Keeps}
 use Rattle.first_form.specs.Formulas.{implication_of}
-use Rattle.first_form.specs.Lexicon.{HasFormula, HaveFormulas, IsLexicon, terms_at}
+use Rattle.goal_text.specs.Scope.{terms_at}
+use Rattle.goal_text.specs.Sentences.{HasSentence, HaveSentences}
+use Rattle.first_form.specs.Lexicon.{IsLexicon}
 use Rattle.first_form.proofs.FormulaLemmas.{under}
 use Rattle.first_form.proofs.formula.implied.Given as goal
 
@@ -10,8 +12,8 @@ abbrev pub invariant-loop-a : goal.invariant-loop-a
 invariant-loop-a l =
     record {
       lexicon : IsLexicon l.base l.lexicon;
-      premises : HaveFormulas l.base l.premises.items;
-      term : HasFormula l.base l.t;
+      premises : HaveSentences l.base l.premises.items;
+      term : HasSentence l.base l.t;
       keeps : Keeps l.fn.base l.base;
       read : implication_of (terms_at l.fn.base l.fn.parts.items) ≡ Some (under (terms_at l.base l.premises.items) (term_tree l.base l.t));
     }

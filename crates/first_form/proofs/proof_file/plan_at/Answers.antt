@@ -6,24 +6,22 @@ use Rattle.hol_terms.specs.TermEq.{term_eq}
 use Rattle.hol_terms.specs.TermStore.{term_tree}
 use Rattle.proof_plan.specs.PlanValue.{PlanValue}
 use Rattle.sexp.specs.Forest.{tree_at}
-use Rattle.first_form.specs.ProofForm.{source_of}
+use Rattle.goal_text.specs.Scope.{terms_at}
 use Rattle.first_form.specs.ProofPlan.{IsAbout, last_claim, plan_nodes_in}
 use Rattle.first_form.specs.Read.{Fails}
-use Rattle.first_form.specs.Setting.{problem_of}
 use Rattle.first_form.specs.Steps.{nodes_in, source_in}
 use Rattle.first_form.proofs.LexiconLemmas.{lexicon_kept}
 use Rattle.first_form.proofs.PlanLemmas.{last_there, made_about, made_plan}
-use Rattle.first_form.proofs.RefutationLemmas.{read_from_none, refutation_fails, refutation_is, refutation_not, source_is}
+use Rattle.first_form.proofs.RefutationLemmas.{read_from_none, refutation_fails, refutation_is, refutation_not}
 use Rattle.first_form.proofs.proof_file.plan_at.Goals as goal
 
 pub returns-in_err-step_at-clause-read : goal.returns-in_err-step_at-clause-read
 returns-in_err-step_at-clause-read c =
     let p = err_from_is_err_and c.from_residual.result c.from_residual.ensures.1 in
     let setting = c.args.setting in
-    let source = source_of (problem_of setting) in
+    let source = source_in setting.base setting.lexicon setting.assertions in
     let tree = tree_at c.args.forest.now c.args.i in
-    let given = source_in setting.base setting.lexicon setting.assertions in
-    let e = read_from_none setting.base c.new.result.items given source tree c.new.ensures.items (source_is setting c.requires.setting) in
+    let e = read_from_none setting.base c.new.result.items source source tree c.new.ensures.items refl in
     let P : Option _ → Type 0 = Fails c.in_err-step_at.field-0.0 in
     rw (p.1, p.2) (refutation_fails source tree c.in_err-step_at.field-0.0 (subst P e c.in_err-step_at.ensures.read))
 
@@ -38,12 +36,11 @@ refutes-requires-clause-claim c =
 pub returns-then-not-refutes-clause-read : goal.returns-then-not-refutes-clause-read
 returns-then-not-refutes-clause-read c =
     let setting = c.args.setting in
-    let source = source_of (problem_of setting) in
+    let source = source_in setting.base setting.lexicon setting.assertions in
     let tree = tree_at c.args.forest.now c.args.i in
-    let given = source_in setting.base setting.lexicon setting.assertions in
     let u = c.step_at.new.steps.base in
     let nodes = c.step_at.new.steps.nodes.items in
-    let e = read_from_none setting.base c.new.result.items given source tree c.new.ensures.items (source_is setting c.requires.setting) in
+    let e = read_from_none setting.base c.new.result.items source source tree c.new.ensures.items refl in
     let answer : c.refutes.result ≡ false = search rules in
     let test : (term_eq (term_tree u (last_claim nodes)) false_tm && nat_lt (length nodes) 400001) ≡ false = rw (← c.deref.ensures.value) (sym c.refutes.ensures ∙ answer) in
     refutation_not source tree u nodes (sym e ∙ c.in_ok-step_at.ensures.read) test
@@ -61,13 +58,12 @@ new-requires-9 c =
 pub returns-clause-read : goal.returns-clause-read
 returns-clause-read c =
     let setting = c.args.setting in
-    let source = source_of (problem_of setting) in
+    let source = source_in setting.base setting.lexicon setting.assertions in
     let tree = tree_at c.args.forest.now c.args.i in
-    let given = source_in setting.base setting.lexicon setting.assertions in
     let u = c.step_at.new.steps.base in
     let nodes = c.step_at.new.steps.nodes.items in
     let done = c.in_ok-step_at.ensures in
-    let e = read_from_none setting.base c.new.result.items given source tree c.new.ensures.items (source_is setting c.requires.setting) in
+    let e = read_from_none setting.base c.new.result.items source source tree c.new.ensures.items refl in
     let answer : c.refutes.result ≡ true = search rules in
     let test : (term_eq (term_tree u (last_claim nodes)) false_tm && nat_lt (length nodes) 400001) ≡ true = rw (← c.deref.ensures.value) (sym c.refutes.ensures ∙ answer) in
     let made : nodes_in c.freeze.result c.new-6.result ≡ nodes_in u nodes = rw (c.freeze.ensures, c.new-6.ensures) refl in
@@ -78,5 +74,5 @@ returns-clause-about c =
     let setting = c.args.setting in
     let u = c.step_at.new.steps.base in
     let nodes = c.step_at.new.steps.nodes.items in
-    let P : PlanValue → Type 0 = IsAbout (problem_of setting) in
+    let P : PlanValue → Type 0 = IsAbout (terms_at setting.base setting.facts) (term_tree setting.base setting.goal) in
     subst P (sym c.new-9.ensures) (made_about setting c.requires.setting u c.in_ok-step_at.ensures.keeps nodes _ c.freeze.ensures refl refl c.into_list.ensures c.new-6.ensures (c.new-8.ensures ∙ c.new-7.ensures.items) (c.new-3.ensures ∙ c.new-2.ensures.items))

@@ -8,11 +8,12 @@ use Rattle.sexp.specs.Tree.{place, no_trees}
 use Rattle.sexp.specs.Forest.{tree_at, trees_at}
 use Rattle.first_form.specs.Read.{Fails}
 use Rattle.first_form.specs.Trees.{is_empty, text_of}
-use Rattle.first_form.specs.declared.lexicon.Spelling.{Spelling}
 use Rattle.first_form.specs.Formulas.{formula_of}
-use Rattle.first_form.specs.Lexicon.{names_of, terms_at}
+use Rattle.goal_text.specs.Scope.{terms_at}
+use Rattle.first_form.specs.Lexicon.{names_of}
 use Rattle.proof_plan.specs.Rules.{TakesPremises}
-use Rattle.first_form.specs.ProofForm.{Source, proof_of, rule_of, fits}
+use Rattle.first_form.specs.ProofForm.{proof_of, rule_of, fits}
+use Rattle.first_form.specs.Source.{Source}
 use Rattle.first_form.specs.ProofNodes.{node}
 use Rattle.first_form.specs.Steps.{IsStep, nodes_in, nodes_with, plan_node, source_in}
 use Rattle.first_form.proofs.ProofLemmas.{premises_step, premises_fail, premises_last, premises_none, proof-other, proof-empty, proof-no_rule, proof-premises, proof-claim, proof-unfit, proof-step}
@@ -109,8 +110,7 @@ step_at-returns-in_err-claim-clause-read t c =
     let last = tree_at c.args.forest.now c.in_ok-premises.last in
     let found : rule_of c.text_at.result.now ≡ Some c.in-Some-rule_of.rule = search rules in
     let named : rule_of (text_of (tree_at c.args.forest.now c.in-Some.first)) ≡ Some c.in-Some-rule_of.rule = rw (← c.text_at.ensures) found in
-    let P : Spelling → Type 0 = λ s. Fails c.in_err-claim.field-0.0 (formula_of s (names_of c.args.lexicon.now.constants) last) in
-    let h = subst P c.requires.source.dollar c.in_err-claim.ensures.read in
+    let h = c.in_err-claim.ensures.read in
     rw (p.1, p.2) (proof-claim src before _ _ _ _ _ c.in-Some.ensures.0 c.in-Some-next.ensures.0 c.in-Some-rule_of.rule nodes c.in_ok-premises.premises.items last named c.in_ok-premises.ensures.read c.in_err-claim.field-0.0 h)
 
 pub step_at-returns-then-not-fits-clause-read : goal.step_at-returns-then-not-fits-clause-read
@@ -126,8 +126,7 @@ step_at-returns-then-not-fits-clause-read t c =
     let claim = term_tree u c.in_ok-claim.claim in
     let found : rule_of c.text_at.result.now ≡ Some rule = search rules in
     let named : rule_of (text_of (tree_at c.args.forest.now c.in-Some.first)) ≡ Some rule = rw (← c.text_at.ensures) found in
-    let P : Spelling → Type 0 = λ s. formula_of s (names_of c.args.lexicon.now.constants) last ≡ Some claim in
-    let h = subst P c.requires.source.dollar c.in_ok-claim.ensures.read in
+    let h = c.in_ok-claim.ensures.read in
     let same = terms_kept old u (keeps_trans c.in_ok-premises.ensures.keeps c.in_ok-claim.ensures.keeps) given c.requires.source.assertions_are in
     let answer : c.fits.result ≡ false = search rules in
     let counted : c.len.result ≡ length c.in_ok-premises.premises.items = c.len.ensures ∙ c.in_ok-premises.premises.ok.0 in
@@ -149,8 +148,7 @@ step_at-returns-clause-read t c =
     let claim = term_tree u c.in_ok-claim.claim in
     let found : rule_of c.text_at.result.now ≡ Some rule = search rules in
     let named : rule_of (text_of (tree_at c.args.forest.now c.in-Some.first)) ≡ Some rule = rw (← c.text_at.ensures) found in
-    let P : Spelling → Type 0 = λ s. formula_of s (names_of c.args.lexicon.now.constants) last ≡ Some claim in
-    let h = subst P c.requires.source.dollar c.in_ok-claim.ensures.read in
+    let h = c.in_ok-claim.ensures.read in
     let same = terms_kept old u (keeps_trans c.in_ok-premises.ensures.keeps c.in_ok-claim.ensures.keeps) given c.requires.source.assertions_are in
     let answer : c.fits.result ≡ true = search rules in
     let counted : c.len.result ≡ length numbers = c.len.ensures ∙ c.in_ok-premises.premises.ok.0 in

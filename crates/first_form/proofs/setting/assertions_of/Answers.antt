@@ -1,6 +1,6 @@
 use Rattle.std.proofs.Common.{◌≡◌, ◌∙◌, ◌++◌, ◌∷◌, [], sym, ap}
 use Rattle.std.proofs.lemmas.Option.{same_Some}
-use Rattle.first_form.specs.Lexicon.{terms_at}
+use Rattle.goal_text.specs.Scope.{terms_at}
 use Rattle.first_form.proofs.LexiconLemmas.{formulas_pushed, terms_pushed}
 use Rattle.first_form.proofs.setting.assertions_of.Goals as goal
 

@@ -6,7 +6,7 @@ use Rattle.smt_cli.proofs.check.check_one.Goals as goal
 pub returns-in-Ok-clause-checks : goal.returns-in-Ok-clause-checks
 returns-in-Ok-clause-checks g c =
     let said = c.in-Ok.ensures in
-    line_checks _ _ _ _ c.print.result c.in-Ok.line.text.items c.in-Ok.line.status c.print.ensures.writes said.status said.goal_refused said.goal_read said.answered
+    line_checks _ _ _ _ c.print.result c.in-Ok.line.text.items c.in-Ok.line.status c.print.ensures.writes said.status said.refused said.unbuilt said.taken said.answered
 
 pub returns-in-Ok-clause-said : goal.returns-in-Ok-clause-said
 returns-in-Ok-clause-said g c = λ says.

@@ -6,4 +6,4 @@ pub returns-in-Ok-clause-goal : goal.returns-in-Ok-clause-goal
 returns-in-Ok-clause-goal g c = λ all told. goal_cut c.in-Ok.text all (rw told at c.in-Ok.ensures.bytes)
 
 pub returns-in-Ok-clause-proof : goal.returns-in-Ok-clause-proof
-returns-in-Ok-clause-proof g c = λ all problem told. proof_cut problem c.in-Ok.text all (rw told at c.in-Ok.ensures.bytes)
+returns-in-Ok-clause-proof g c = λ all source told. proof_cut source c.in-Ok.text all (rw told at c.in-Ok.ensures.bytes)

@@ -1,8 +1,0 @@
-use Rattle.std.proofs.Common.{◌≡◌, drop}
-use Rattle.std.specs.List.{list_all}
-use Rattle.first_form.specs.Names.{is_inner}
-use Rattle.first_form.proofs.name.all_inner.Given as goal
-
--- the bytes still to come decide
-abbrev pub invariant-loop-b : goal.invariant-loop-b
-invariant-loop-b l = list_all is_inner (drop l.b-index l.text) ≡ list_all is_inner l.text
