@@ -34,7 +34,7 @@ fn go(k: &mut Kernel<'_>, words: &Words) -> Option<()> {
 }
 
 /// The kernel over no terms, without facts and context.
-#[tactic(auto, using(crate::proofs::GivenLemmas::no_formulas_there, crate::proofs::GivenLemmas::no_context))]
+#[tactic(auto, using(hol_formulas::proofs::SmallLemmas::no_formulas_there, hol_formulas::proofs::SmallLemmas::no_context))]
 fn run(alloc: Global, frozen: &Frozen, words: &Words) -> Option<()> {
     let mut k = Kernel::new(alloc, frozen, &[], &[]).ok()?;
     go(&mut k, words)

@@ -2,7 +2,7 @@
 ghost use Rattle.std.specs.Prelude.{IfOk, IfSome};
 ghost use Rattle.hol_terms.specs.Substitution.{IsClosed};
 ghost use Rattle.hol_terms.specs.TermStore.{HasTerm, Keeps, term_tree};
-ghost use Rattle.lcf_kernel.specs.KernelState.{HasThm, KeepsAll};
+ghost use Rattle.lcf_kernel.specs.KernelState.{KeepsAll};
 ghost use Rattle.bench_kernel.specs.Given.{HasGiven};
 
 use hol_terms::{FreeKind, Node, TermId, Terms};
@@ -74,7 +74,7 @@ fn identity<S: Terms>(store: &mut S) -> Option<TermId>
 }
 
 /// What the rules are called on, made of a variable and a lambda.
-#[tactic(auto, using(crate::proofs::GivenLemmas::has_kept, crate::proofs::GivenLemmas::term_kept, crate::proofs::GivenLemmas::closed_kept))]
+#[tactic(auto, using(lcf_kernel::proofs::KeptLemmas::has_kept, lcf_kernel::proofs::KeptLemmas::term_kept, lcf_kernel::proofs::KeptLemmas::closed_kept))]
 fn records(k: &mut Kernel<'_>, x: TermId, lambda: TermId) -> Result<Given, RuleFault>
     requires there { HasTerm k.old.store x }
     requires lambda_there { HasTerm k.old.store lambda }

@@ -1,11 +1,11 @@
 //! The names of rules and texts of causes, and a plan of two nodes.
 ghost use Rattle.std.specs.Prelude.{◌≡◌, [], ◌∷◌, IfOk};
-ghost use Rattle.hol_terms.specs.Constants.{false_tm};
 ghost use Rattle.call_tests.specs.Small.{asserted_false, resolved_false};
 ghost use Rattle.hol_types.specs.Ty.{BoolTy};
 ghost use Rattle.hol_terms.specs.Term.{ConstTm};
 ghost use Rattle.hol_terms.specs.TermStore.{term_tree, HasTerm};
 
+use crate::lists::one;
 use hol_terms::{Base, Node, Parts, TermId, Terms};
 use hol_types::{List, TypeNode};
 use proof_plan::{Plan, PlanNode, Rule, State, Task, Weight, Why, append_why, may_be_shared, task};
@@ -28,14 +28,6 @@ fn no_items<T: Drop>(alloc: Global) -> List<T>
     ensures { result ≡ [] }
 {
     List::new(Vec::new(alloc))
-}
-
-fn one<T: Drop>(alloc: Global, item: T) -> Result<List<T>, AllocError>
-    ensures { IfOk result (λ list. list ≡ item ∷ []) }
-{
-    let mut list = List::with_capacity(alloc, 1)?;
-    list.push(item)?;
-    Ok(list)
 }
 
 fn two<T: Drop>(alloc: Global, first: T, second: T) -> Result<List<T>, AllocError>

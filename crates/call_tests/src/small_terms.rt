@@ -1,23 +1,14 @@
 //! What no clause says: that the calls succeed, and that the clauses mean what they should on small terms. The expected
 //! values are the typing rules of simple type theory, worked by hand.
-ghost use Rattle.std.specs.Prelude.{◌≡◌, ◌∷◌, [], IfOk};
+ghost use Rattle.std.specs.Prelude.{IfOk};
 ghost use Rattle.hol_types.specs.TypeStore.{HasType};
 ghost use Rattle.hol_terms.specs.TermStore.{HasTerm, Keeps};
 
+use crate::lists::one;
 use hol_terms::{Base, Node, Store, TermFault, TermId, Terms, built_in};
-use hol_types::{List, NameId, Subst, TypeId, TypeNode};
-use std::alloc::Global;
+use hol_types::{TypeId, TypeNode};
 use std::process::Abort;
 use std::test::Fail;
-
-// One name with its type.
-fn one(alloc: Global, name: NameId, ty: TypeId) -> Result<Subst, Fail>
-    ensures { IfOk result (λ list. list ≡ (name, ty) ∷ []) }
-{
-    let mut list = List::with_capacity(alloc, 1)?;
-    list.push((name, ty))?;
-    Ok(list)
-}
 
 // The variable 'a, or Int.
 fn item_type<S: Terms>(store: &mut S, general: bool) -> Result<TypeId, Fail>
@@ -114,7 +105,7 @@ fn at_int<S: Terms>(store: &mut S, t: TermId) -> Result<TermId, Fail>
 {
     let letter = store.name(b"'a")?;
     let int = store.intern_type(TypeNode::Int)?;
-    let subst = one(store.allocator(), letter, int)?;
+    let subst = one(store.allocator(), (letter, int))?;
     let r = store.instantiate(t, &subst)?;
     Ok(r)
 }

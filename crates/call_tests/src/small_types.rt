@@ -1,20 +1,12 @@
 //! What no clause says: that the calls succeed, and that the clauses mean what they should on small types.
-ghost use Rattle.std.specs.Prelude.{◌≡◌, ◌∷◌, [], IfOk};
+ghost use Rattle.std.specs.Prelude.{IfOk};
 ghost use Rattle.hol_types.specs.TypeStore.{HasName, HasType};
 
+use crate::lists::one;
 use hol_types::{Bytes, FileName, List, NameId, Room, TypeFault, TypeId, TypeNode, Types};
-use std::alloc::{AllocError, Global};
+use std::alloc::Global;
 use std::process::Abort;
 use std::test::Fail;
-
-// A list of one item.
-fn one<T: Drop>(alloc: Global, item: T) -> Result<List<T>, AllocError>
-    ensures { IfOk result (λ list. list ≡ item ∷ []) }
-{
-    let mut list = List::with_capacity(alloc, 1)?;
-    list.push(item)?;
-    Ok(list)
-}
 
 // A name has one number and its text.
 fn names(rt: &impl Abort, types: &mut Types) -> Result<(), Fail> {

@@ -1,22 +1,13 @@
 //! The calls on types of `Terms`, and constants at other types, through the bound. The expected values are worked by hand.
-ghost use Rattle.std.specs.Prelude.{◌≡◌, ◌∷◌, [], IfOk};
+ghost use Rattle.std.specs.Prelude.{IfOk};
 ghost use Rattle.hol_types.specs.TypeStore.{HasName, HasType};
 ghost use Rattle.hol_terms.specs.TermStore.{HasTerm, Keeps};
 
+use crate::lists::one;
 use hol_terms::{Node, TermId, Terms};
 use hol_types::{List, NameId, Subst, TypeId, TypeNode};
-use std::alloc::{AllocError, Global};
 use std::process::Abort;
 use std::test::Fail;
-
-// A list of one item.
-fn one<T: Drop>(alloc: Global, item: T) -> Result<List<T>, AllocError>
-    ensures { IfOk result (λ list. list ≡ item ∷ []) }
-{
-    let mut list = List::with_capacity(alloc, 1)?;
-    list.push(item)?;
-    Ok(list)
-}
 
 // 'a, as a name and as a type.
 #[tactic(auto, using(hol_terms::proofs::KeepsLemmas::keeps_trans))]

@@ -1,21 +1,13 @@
 //! Types by number: constructors, matching, and types of many shared parts. The expected values are worked by hand.
-ghost use Rattle.std.specs.Prelude.{◌≡◌, ◌∷◌, [], IfOk};
+ghost use Rattle.std.specs.Prelude.{IfOk};
 ghost use Rattle.hol_types.specs.TypeStore.{HasName, HasType};
 ghost use Rattle.hol_types.specs.KeepsTypes.{KeepsTypes};
 
+use crate::lists::one;
 use hol_types::{List, NameId, Subst, TypeFault, TypeId, TypeNode, Types};
-use std::alloc::{AllocError, Global};
+use std::alloc::Global;
 use std::process::Abort;
 use std::test::Fail;
-
-// A list of one item.
-fn one<T: Drop>(alloc: Global, item: T) -> Result<List<T>, AllocError>
-    ensures { IfOk result (λ list. list ≡ item ∷ []) }
-{
-    let mut list = List::with_capacity(alloc, 1)?;
-    list.push(item)?;
-    Ok(list)
-}
 
 // 'a, as a name and as a type.
 #[tactic(auto, using(hol_types::proofs::KeepsLemmas::keeps_types_trans))]

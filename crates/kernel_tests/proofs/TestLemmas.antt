@@ -10,7 +10,6 @@ use Rattle.hol_terms.specs.Term.{FreeTm, ty_of}
 use Rattle.hol_terms.specs.declared.node.FreeKind.TheVariants.{Open, Symbol}
 use Rattle.hol_terms.specs.TermStore.{TermStore, HasTerm, Keeps, term_tree}
 use Rattle.hol_terms.proofs.KeepsLemmas.{subst_kept}
-use Rattle.hol_terms.specs.Substitution.{IsClosed}
 use Rattle.hol_terms.proofs.FormulaLemmas.{false_is_formula}
 use Rattle.hol_terms.specs.Derivable.{Derivable}
 use Rattle.hol_terms.proofs.SetLemmas.{in_append_right, in_append_either}
@@ -23,18 +22,6 @@ use Rattle.hol_formulas.specs.Formulas.{trees, HasFormula, HasFormulas, HasNoOpe
 
 pub falsity_bool : (s : TermStore) (c : Constants) → AreConstants s c → ty_of (term_tree s c.falsity) ≡ BoolTy
 falsity_bool s c are = ap ty_of are.falsity.is
-
-pub falsity_closed : (s : TermStore) (c : Constants) → AreConstants s c → IsClosed (term_tree s c.falsity)
-falsity_closed s c are = rw are.falsity.is tt
-
-pub not_closed : (s : TermStore) (c : Constants) → AreConstants s c → IsClosed (term_tree s c.not)
-not_closed s c are = rw are.not.is tt
-
-pub no_formulas_there : (s : TermStore) → HasFormulas s []
-no_formulas_there s = record { each = λ t h. absurd h }
-
-pub no_context : (s : TermStore) → IsContext s []
-no_context s = record { formulas = no_formulas_there s; no_open = λ t h. absurd h }
 
 pub falsity_formula : (s : TermStore) (c : Constants) → AreConstants s c → HasFormula s c.falsity
 falsity_formula s c are = record { there = are.falsity.there; formula = rw are.falsity.is false_is_formula }
@@ -53,12 +40,6 @@ falsity_context s c are = record {
   formulas = falsity_given s c are;
   no_open = λ t h. ⊎_elim (λ (e : t ≡ c.falsity). subst (λ u. HasNoOpen (term_tree s u)) (sym e) (rw are.falsity.is (record { none = λ n ty i. i }))) (λ i. absurd i) h;
 }
-
-pub has_kept : (old new : KernelState) → KeepsAll old new → (t : ℕ) → HasThm old t → HasThm new t
-has_kept old new keeps t h = keeps.records.has t h
-
-pub term_kept : (old new : KernelState) → KeepsAll old new → (t : ℕ) → HasTerm old.store t → HasTerm new.store t
-term_kept old new keeps t h = keeps.records.store.terms t h
 
 pub subst_there : (old new : KernelState) → KeepsAll old new → (ps : List (ℕ × ℕ)) → HasSubst old.store.types ps → HasSubst new.store.types ps
 subst_there old new keeps ps h = subst_kept keeps.records.store ps h

@@ -65,7 +65,7 @@ fn store(rt: &impl Abort, alloc: Global) -> Result<(Frozen, Vec<TermId>, TermId)
     Ok((base.freeze(), terms, p))
 }
 
-#[tactic(auto, using(crate::proofs::TestLemmas::no_formulas_there, crate::proofs::TestLemmas::terms_kept))]
+#[tactic(auto, using(hol_formulas::proofs::SmallLemmas::no_formulas_there, crate::proofs::TestLemmas::terms_kept))]
 fn over_store(
     rt: &impl Abort,
     alloc: Global,

@@ -25,7 +25,7 @@ fn variable<S: Terms>(store: &mut S, ty: TypeId) -> Result<TermId, Fail>
 }
 
 // That x of type 'a equals itself gives that x of type Bool does. What is assumed of x of type 'a isn't known of others.
-#[tactic(auto, using(crate::proofs::TestLemmas::has_kept, crate::proofs::TestLemmas::term_kept, crate::proofs::TestLemmas::subst_there))]
+#[tactic(auto, using(lcf_kernel::proofs::KeptLemmas::has_kept, lcf_kernel::proofs::KeptLemmas::term_kept, crate::proofs::TestLemmas::subst_there))]
 fn instances(
     rt: &impl Abort,
     k: &mut Kernel<'_>,
@@ -72,7 +72,7 @@ fn each_case(rt: &impl Abort, k: &mut Kernel<'_>) -> Result<(), Fail> {
     instances(rt, k, &given.0, given.1, x)
 }
 
-#[tactic(auto, using(crate::proofs::TestLemmas::no_formulas_there, crate::proofs::TestLemmas::no_context))]
+#[tactic(auto, using(hol_formulas::proofs::SmallLemmas::no_formulas_there, hol_formulas::proofs::SmallLemmas::no_context))]
 fn over_nothing(rt: &impl Abort, alloc: Global, frozen: &Frozen) -> Result<(), Fail> {
     let mut k = Kernel::new(alloc, frozen, &[], &[])?;
     each_case(rt, &mut k)

@@ -48,7 +48,7 @@ fn numbers(rt: &impl Abort, k: &mut Kernel<'_>) -> Result<(), Fail> {
     Ok(())
 }
 
-#[tactic(auto, using(crate::proofs::TestLemmas::no_formulas_there, crate::proofs::TestLemmas::no_context))]
+#[tactic(auto, using(hol_formulas::proofs::SmallLemmas::no_formulas_there, hol_formulas::proofs::SmallLemmas::no_context))]
 fn over_nothing(rt: &impl Abort, alloc: Global, frozen: &Frozen) -> Result<(), Fail> {
     let mut k = Kernel::new(alloc, frozen, &[], &[])?;
     numbers(rt, &mut k)

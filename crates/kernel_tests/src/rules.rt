@@ -8,7 +8,7 @@ use std::process::Abort;
 use std::test::Fail;
 
 // From false, false and false; then each side. `false` is no conjunction.
-#[tactic(auto, using(crate::proofs::TestLemmas::has_kept))]
+#[tactic(auto, using(lcf_kernel::proofs::KeptLemmas::has_kept))]
 fn conjunctions(rt: &impl Abort, k: &mut Kernel<'_>) -> Result<(), Fail> {
     let p = falsity(k);
     let a = k.assume(p)?;
@@ -23,7 +23,7 @@ fn conjunctions(rt: &impl Abort, k: &mut Kernel<'_>) -> Result<(), Fail> {
 }
 
 // From false, false or false, and from that, false in either case. `false` is no disjunction, and `not` no formula.
-#[tactic(auto, using(crate::proofs::TestLemmas::has_kept))]
+#[tactic(auto, using(lcf_kernel::proofs::KeptLemmas::has_kept))]
 fn disjunctions(rt: &impl Abort, k: &mut Kernel<'_>) -> Result<(), Fail> {
     let p = falsity(k);
     let a = k.assume(p)?;
@@ -40,7 +40,7 @@ fn disjunctions(rt: &impl Abort, k: &mut Kernel<'_>) -> Result<(), Fail> {
 }
 
 // Not false, from nothing; that isn't false.
-#[tactic(auto, using(crate::proofs::TestLemmas::has_kept))]
+#[tactic(auto, using(lcf_kernel::proofs::KeptLemmas::has_kept))]
 fn negations(rt: &impl Abort, k: &mut Kernel<'_>) -> Result<(), Fail> {
     let p = falsity(k);
     let a = k.assume(p)?;
@@ -53,7 +53,7 @@ fn negations(rt: &impl Abort, k: &mut Kernel<'_>) -> Result<(), Fail> {
 }
 
 // True from nothing, and from false.
-#[tactic(auto, using(crate::proofs::TestLemmas::has_kept))]
+#[tactic(auto, using(lcf_kernel::proofs::KeptLemmas::has_kept))]
 fn weakenings(rt: &impl Abort, k: &mut Kernel<'_>) -> Result<(), Fail> {
     let t = k.true_i()?;
     assert_record(rt, k, t, &[], k.constants().truth);
@@ -66,7 +66,7 @@ fn weakenings(rt: &impl Abort, k: &mut Kernel<'_>) -> Result<(), Fail> {
 }
 
 // False equals false, from nothing, in two ways. `false` is no lambda, and no application of one.
-#[tactic(auto, using(crate::proofs::TestLemmas::has_kept))]
+#[tactic(auto, using(lcf_kernel::proofs::KeptLemmas::has_kept))]
 fn equations(rt: &impl Abort, k: &mut Kernel<'_>) -> Result<(), Fail> {
     let p = falsity(k);
     let r = k.refl(p)?;
@@ -82,7 +82,7 @@ fn equations(rt: &impl Abort, k: &mut Kernel<'_>) -> Result<(), Fail> {
 }
 
 // Under false, the conditional of false is its first branch; `false` is no negation, and `not` has another type.
-#[tactic(auto, using(crate::proofs::TestLemmas::has_kept))]
+#[tactic(auto, using(lcf_kernel::proofs::KeptLemmas::has_kept))]
 fn conditionals(rt: &impl Abort, k: &mut Kernel<'_>) -> Result<(), Fail> {
     let p = falsity(k);
     let a = k.assume(p)?;
@@ -106,7 +106,7 @@ fn each_rule(rt: &impl Abort, k: &mut Kernel<'_>) -> Result<(), Fail> {
     conditionals(rt, k)
 }
 
-#[tactic(auto, using(crate::proofs::TestLemmas::no_formulas_there, crate::proofs::TestLemmas::no_context))]
+#[tactic(auto, using(hol_formulas::proofs::SmallLemmas::no_formulas_there, hol_formulas::proofs::SmallLemmas::no_context))]
 fn over_nothing(rt: &impl Abort, alloc: Global, frozen: &Frozen) -> Result<(), Fail> {
     let mut k = Kernel::new(alloc, frozen, &[], &[])?;
     each_rule(rt, &mut k)

@@ -1,6 +1,5 @@
 //! Scripts: a table of calls, each with what it must answer.
 ghost use Rattle.std.specs.Prelude.{IfOk};
-ghost use Rattle.hol_terms.specs.TermStore.{HasTerm};
 ghost use Rattle.lcf_kernel.specs.KernelState.{HasThm, KeepsAll};
 ghost use Rattle.kernel_tests.specs.Tables.{AreTerms, AreThms};
 
@@ -122,7 +121,7 @@ fn store(
     Ok((base.freeze(), terms))
 }
 
-#[tactic(auto, using(crate::proofs::TestLemmas::no_formulas_there, crate::proofs::TestLemmas::no_context, crate::proofs::TestLemmas::terms_kept))]
+#[tactic(auto, using(hol_formulas::proofs::SmallLemmas::no_formulas_there, hol_formulas::proofs::SmallLemmas::no_context, crate::proofs::TestLemmas::terms_kept))]
 fn over_store(
     rt: &impl Abort,
     alloc: Global,

@@ -1,6 +1,6 @@
 //! What no clause says: that the calls succeed, and that the clauses mean what they should on small records. The expected
 //! values are the rules of natural deduction, worked by hand.
-ghost use Rattle.std.specs.Prelude.{◌≡◌, IfOk};
+ghost use Rattle.std.specs.Prelude.{IfOk};
 ghost use Rattle.hol_terms.specs.Substitution.{IsClosed};
 ghost use Rattle.hol_terms.specs.TermStore.{HasTerm, term_tree};
 ghost use Rattle.lcf_kernel.specs.KernelState.{HasThm, IsKernel};
@@ -16,7 +16,7 @@ use std::process::Abort;
 use std::test::Fail;
 
 // `false`, a formula.
-#[tactic(auto, using(crate::proofs::TestLemmas::falsity_closed, crate::proofs::TestLemmas::falsity_formula))]
+#[tactic(auto, using(hol_formulas::proofs::SmallLemmas::falsity_closed, crate::proofs::TestLemmas::falsity_formula))]
 pub(crate) fn falsity(k: &Kernel<'_>) -> TermId
     ensures there { HasTerm k.now.store result }
     ensures closed { IsClosed (term_tree k.now.store result) }
@@ -27,7 +27,7 @@ pub(crate) fn falsity(k: &Kernel<'_>) -> TermId
 }
 
 // `not`, which is closed and isn't of type Bool.
-#[tactic(auto, using(crate::proofs::TestLemmas::not_closed))]
+#[tactic(auto, using(hol_formulas::proofs::SmallLemmas::not_closed))]
 pub(crate) fn symbol(k: &Kernel<'_>) -> TermId
     ensures there { HasTerm k.now.store result }
     ensures closed { IsClosed (term_tree k.now.store result) }
@@ -61,7 +61,7 @@ pub(crate) fn assert_record(
     assert_eq!(rt; k.hyps(t), hyps);
 }
 
-#[tactic(auto, using(crate::proofs::TestLemmas::has_kept))]
+#[tactic(auto, using(lcf_kernel::proofs::KeptLemmas::has_kept))]
 fn implications(rt: &impl Abort, k: &mut Kernel<'_>) -> Result<(), Fail> {
     let not = symbol(k);
     assert_eq!(rt; k.assume(not), Err(RuleFault::Shape));
@@ -79,7 +79,7 @@ fn implications(rt: &impl Abort, k: &mut Kernel<'_>) -> Result<(), Fail> {
     Ok(())
 }
 
-#[tactic(auto, using(crate::proofs::TestLemmas::has_kept))]
+#[tactic(auto, using(lcf_kernel::proofs::KeptLemmas::has_kept))]
 fn negations(rt: &impl Abort, k: &mut Kernel<'_>) -> Result<(), Fail> {
     let n = negation(rt, k)?;
     let a = k.assume(n)?;
@@ -97,7 +97,7 @@ fn negations(rt: &impl Abort, k: &mut Kernel<'_>) -> Result<(), Fail> {
     Ok(())
 }
 
-#[tactic(auto, using(crate::proofs::TestLemmas::has_kept))]
+#[tactic(auto, using(lcf_kernel::proofs::KeptLemmas::has_kept))]
 fn not_false(rt: &impl Abort, k: &mut Kernel<'_>) -> Result<(), Fail> {
     let n = negation(rt, k)?;
     let a = k.assume(n)?;
@@ -139,7 +139,7 @@ fn each_rule(rt: &impl Abort, k: &mut Kernel<'_>, p: TermId) -> Result<(), Fail>
 }
 
 // The rules over one fact, false.
-#[tactic(auto, using(crate::proofs::TestLemmas::falsity_given, crate::proofs::TestLemmas::no_context))]
+#[tactic(auto, using(crate::proofs::TestLemmas::falsity_given, hol_formulas::proofs::SmallLemmas::no_context))]
 fn with_fact(
     rt: &impl Abort,
     alloc: Global,
@@ -161,7 +161,7 @@ fn assumption(rt: &impl Abort, k: &mut Kernel<'_>, p: TermId) -> Result<(), Fail
     Ok(())
 }
 
-#[tactic(auto, using(crate::proofs::TestLemmas::no_formulas_there, crate::proofs::TestLemmas::falsity_context))]
+#[tactic(auto, using(hol_formulas::proofs::SmallLemmas::no_formulas_there, crate::proofs::TestLemmas::falsity_context))]
 fn with_context(
     rt: &impl Abort,
     alloc: Global,
