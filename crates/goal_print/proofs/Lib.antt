@@ -19,15 +19,6 @@ pub mod ListReadLemmas
 pub mod PlaceReadLemmas
 pub mod TermReadLemmas
 pub mod ShapeReadLemmas
-pub mod ReadingLemmas
-pub mod GivenTypeLemmas
-pub mod GivenOperationLemmas
-pub mod LiteralLemmas
-pub mod GivenFormLemmas
-pub mod GivenTermLemmas
-pub mod GivenReadLemmas
-pub mod GivenKeptLemmas
 pub mod OnceLemmas
-pub mod GivenGoalLemmas
 pub mod NestedLemmas
 pub mod ReadBackLemmas

@@ -19,7 +19,7 @@ use Rattle.goal_text.specs.Terms.{applied, apply_all, built, takes_all, term_of,
 use Rattle.goal_print.specs.Shapes.{Shape, Shapes, AtomShape, ListShape, no_shapes, more_shapes, joined, one_shape, HasShape, HaveShapes}
 use Rattle.goal_print.specs.TermShape.{binder_shape, headed_by, type_shape}
 use Rattle.goal_print.specs.TermText.{variable_text}
-use Rattle.goal_print.specs.Given.{IsGivenType}
+use Rattle.goal_text.specs.Given.{IsGivenType}
 use Rattle.goal_print.specs.Under.{named, under_binders}
 use Rattle.goal_print.proofs.WordLemmas.{variable_form}
 use Rattle.goal_print.proofs.TypeReadLemmas.{reads_type}

@@ -22,7 +22,7 @@ use Rattle.goal_text.specs.Terms.{atom_of, built, divisor_of, literal_of, term_o
 use Rattle.goal_print.specs.Shapes.{Shape, Shapes, AtomShape, no_shapes, more_shapes, joined, one_shape, HasShape, HaveShapes}
 use Rattle.goal_print.specs.TermShape.{headed_by, type_shape}
 use Rattle.goal_print.specs.TermText.{variable_text}
-use Rattle.goal_print.specs.Given.{IsGivenType}
+use Rattle.goal_text.specs.Given.{IsGivenType}
 use Rattle.goal_print.proofs.WordLemmas.{number_form, number_value, variable_form, variable_no_number, name_no_number, name_apart, true_no_name, false_no_name}
 use Rattle.goal_text.proofs.KeptLemmas.{bind_ok, wanting_ok, same_Ok}
 use Rattle.goal_print.proofs.TypeReadLemmas.{reads_type}

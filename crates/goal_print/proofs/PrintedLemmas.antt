@@ -9,7 +9,7 @@ use Rattle.goal_text.specs.Names.{Constructors, Constants}
 use Rattle.goal_print.specs.TermText.{goal_text}
 use Rattle.goal_print.specs.Shapes.{shape_text, HasShape, IsWritten}
 use Rattle.goal_print.specs.TermShape.{term_shape}
-use Rattle.goal_print.specs.Given.{IsGiven}
+use Rattle.goal_text.specs.Given.{IsGiven}
 use Rattle.goal_print.specs.Under.{IsOnce}
 use Rattle.goal_print.proofs.TermTextLemmas.{text_is}
 use Rattle.goal_print.proofs.WrittenLemmas.{term_is_written}

@@ -19,8 +19,8 @@ use Rattle.goal_print.specs.Kinds.{kind_by_lambda, kind_by_number, kind_of, kind
 use Rattle.goal_print.specs.TermText.{is_schematic, variable_text, word_for}
 use Rattle.goal_print.specs.Shapes.{AtomShape, more_shapes, one_shape, HasShape}
 use Rattle.goal_print.specs.TermShape.{Written, Whole, Listed, applied_to, bound_written, constant_shape, first_written, shape_of, term_shape, written, written_by}
-use Rattle.goal_print.specs.Given
-use Rattle.goal_print.specs.Given.{IsGiven, IsGivenConstant, IsPositive, binder_at}
+use Rattle.goal_text.specs.Given
+use Rattle.goal_text.specs.Given.{IsGiven, IsGivenConstant, IsPositive, binder_at}
 use Rattle.goal_print.specs.Under.{IsOnce, named, nested, under_binders}
 use Rattle.goal_print.proofs.WordLemmas.{bound_below, bound_found, name_apart, name_no_word, name_unbound, variable_no_word}
 use Rattle.goal_print.proofs.PartReadLemmas.{ascription_read, constant_read, false_read, literal_read, negative_read, true_read, variable_read}

@@ -20,7 +20,7 @@ use Rattle.goal_text.specs.Operations.{all_are, fits, meaning, takes, to_the_lef
 use Rattle.goal_text.specs.Forms.{divides, is_literal, is_minus}
 use Rattle.goal_print.specs.Shapes.{Shape, Shapes, AtomShape, ListShape, more_shapes, joined, one_shape, HasShape, HaveShapes}
 use Rattle.goal_print.specs.TermShape.{Written, Listed, applied_to, binder_shape, binders_in, body_in, chained, headed_by, in_list, left_of, right_of, shape_of}
-use Rattle.goal_print.specs.Given.{IsGivenType}
+use Rattle.goal_text.specs.Given.{IsGivenType}
 use Rattle.goal_print.specs.Under.{under_binders}
 use Rattle.goal_print.proofs.PartReadLemmas.{Reads, all_joined, all_more, all_one, division_read, negative_read, no_literal, operation_read, plain_operation}
 use Rattle.goal_print.proofs.ListReadLemmas.{applied_read, chain_more, chain_read, spine_more}

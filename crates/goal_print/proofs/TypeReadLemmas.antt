@@ -9,7 +9,7 @@ use Rattle.goal_text.specs.Names.{Constructors}
 use Rattle.goal_text.specs.Types.{Arrows, Constructed, arrows, type_atom, type_built, type_form, type_of, types_behind, types_of}
 use Rattle.goal_print.specs.Shapes.{HasShape, HaveShapes}
 use Rattle.goal_print.specs.TermShape.{type_shape, results_shape, types_shape}
-use Rattle.goal_print.specs.Given.{how_many, IsGivenType, AreGivenTypes}
+use Rattle.goal_text.specs.Given.{how_many, IsGivenType, AreGivenTypes}
 use Rattle.goal_print.proofs.WordLemmas.{apart, name_apart, name_no_type_variable, equal_numbers, bool_no_name, int_no_name, arrow_no_name, bool_no_type_variable, int_no_type_variable}
 
 some_there : (n : ℕ) → nat_lt 0 (n + 1) ≡ true

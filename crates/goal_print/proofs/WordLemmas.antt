@@ -14,7 +14,7 @@ use Rattle.hol_types.specs.Exact.{both_true}
 use Rattle.goal_text.specs.Lexicon.{is_letter, is_digit, is_inner, is_name, is_number, is_variable, is_type_variable, has_name_form, are_digits, value_of, value_behind, is_reserved, word_of}
 use Rattle.goal_text.specs.Names.{bound_to}
 use Rattle.goal_print.specs.TermText.{variable_text}
-use Rattle.goal_print.specs.Given.{binder_at}
+use Rattle.goal_text.specs.Given.{binder_at}
 use Rattle.goal_print.specs.Under.{named}
 
 -- a text that passes a test differs from one that doesn't

@@ -10,7 +10,7 @@ use Rattle.goal_print.specs.Shapes.{Shape, Shapes, AtomShape, ListShape, no_shap
 use Rattle.goal_print.specs.Kinds.{kind_of, goes_on}
 use Rattle.goal_print.specs.TermText.{variable_text, is_schematic}
 use Rattle.goal_print.specs.TermShape.{type_shape, results_shape, types_shape, literal_shape, constant_shape, binder_shape, Written, Whole, Listed, Chained, list_shape, chain_shape, shape_of, in_list, binders_in, body_in, chained, applied_to, written_by, written, first_written, bound_written, term_shape}
-use Rattle.goal_print.specs.Given.{IsGivenType, AreGivenTypes, IsGiven, given_bound, given_constant, given_number, given_negative, given_true, given_false, given_not, given_and, given_or, given_implies, given_equation, given_conditional, given_add, given_mul, given_sub, given_neg, given_at_most, given_less, given_quotient, given_remainder, given_all, given_ex, given_lambda, given_application}
+use Rattle.goal_text.specs.Given.{IsGivenType, AreGivenTypes, IsGiven, given_bound, given_constant, given_number, given_negative, given_true, given_false, given_not, given_and, given_or, given_implies, given_equation, given_conditional, given_add, given_mul, given_sub, given_neg, given_at_most, given_less, given_quotient, given_remainder, given_all, given_ex, given_lambda, given_application}
 use Rattle.goal_print.specs.Under.{IsOnce}
 use Rattle.goal_print.specs.declared.kind.Kind.{Kind}
 use Rattle.goal_print.specs.declared.kind.Kind.TheVariants.{Leaf, Application, Conditional, NegatedZero, And, Or, Sum, Product, Forall, Exists, Lambda}

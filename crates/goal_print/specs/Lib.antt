@@ -5,6 +5,5 @@ pub mod Pieces
 pub mod Printed
 pub mod Shapes
 pub mod TermShape
-pub mod Given
 pub mod Under
 pub mod ReadsBack

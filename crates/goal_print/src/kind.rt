@@ -1,5 +1,5 @@
 //! What a term is, as far as its list goes.
-ghost use Rattle.std.specs.Prelude.{◌≡◌, ◌↔◌, IsTrue, Some};
+ghost use Rattle.std.specs.Prelude.{◌≡◌, Some};
 ghost use Rattle.hol_types.specs.TypeStore.{HasName, text_of};
 ghost use Rattle.hol_terms.specs.TermStore.{HasTerm, term_tree};
 ghost use Rattle.goal_print.specs.Kinds as kinds;

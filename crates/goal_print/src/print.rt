@@ -3,7 +3,7 @@ ghost use Rattle.std.specs.Prelude.{◌≡◌, ℕ, ◌^◌, ◌≤◌, List, �
 ghost use Rattle.std.specs.List.{AllByRecursion};
 ghost use Rattle.hol_terms.specs.TermStore.{HasTerm, term_tree};
 ghost use Rattle.goal_text.specs.Names.{Constants};
-ghost use Rattle.goal_text.specs.ItemsIn.{HasDeclared, IsProblem, IsRead, declared_in};
+ghost use Rattle.goal_text.specs.ItemsIn.{HasDeclared, IsProblem, IsRead, declared_in, said_under};
 ghost use Rattle.goal_print.specs.TermText.{goal_text};
 ghost use Rattle.goal_print.specs.Printed.{printed};
 ghost use Rattle.goal_print.specs.ReadsBack.{ReadsBack};
@@ -68,9 +68,9 @@ fn append_under(
     Ok(())
 }
 
-/// Appends the text of a problem's goal. Put as the goal behind the declarations and facts of a text that says the problem, it is
-/// read as the same term (`reads_back`), or refused because its lists are nested too deep, and for no other reason. Of the length
-/// of the whole text nothing is said.
+/// Appends the text of a problem's goal. Put as the goal behind the problem's declarations and facts, it is read as the same term
+/// (`reads_back`), or refused because its lists are nested too deep, and for no other reason. So it is behind the declarations and
+/// facts of a text that says the problem (`reads_back_in`). Of the length of the whole text nothing is said.
 ///
 /// Right spines of `and` and `or` and left spines of `+` and `*` are one list, `=>` has two parts, quantifiers of one kind and
 /// lambdas within one another have one list of binders, and `(-> ..)` has its longest chain. A variable is `?v0`, `?v1`, .. by the
@@ -82,7 +82,8 @@ pub fn print_goal(alloc: Global, problem: &Problem, out: &mut Bytes) -> Result<(
     requires { IsProblem problem.now }
     ensures ok { OnOk result (out.new ≡ out.old ++ printed problem.now) }
     ensures err { OnErr result (AppendsPart (printed problem.now) out.old out.new) }
-    ensures reads_back { (text : List ℕ) (is : IsRead text problem.now) → ReadsBack is.said (printed problem.now) }
+    ensures reads_back { (is : IsProblem problem.now) → ReadsBack (said_under is.types problem.now) (printed problem.now) }
+    ensures reads_back_in { (text : List ℕ) (is : IsRead text problem.now) → ReadsBack is.said (printed problem.now) }
 {
     append_under(
         alloc,

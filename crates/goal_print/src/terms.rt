@@ -1,7 +1,7 @@
 //! Terms are taken apart: what stands for one is put on the pieces, its last part first.
-ghost use Rattle.std.specs.Prelude.{◌≡◌, ◌+◌, ◌++◌, ◌<◌, ◌^◌, OnOk, Some, true, codes};
+ghost use Rattle.std.specs.Prelude.{◌+◌, ◌++◌, ◌<◌, ◌^◌, OnOk, Some, true, codes};
 ghost use Rattle.hol_types.specs.TypeStore.{HasName, HasType, text_of, type_tree};
-ghost use Rattle.hol_terms.specs.TermStore.{TermStore, HasTerm, term_tree};
+ghost use Rattle.hol_terms.specs.TermStore.{TermStore, term_tree};
 ghost use Rattle.hol_terms.specs.Term.{AppTm, LamTm};
 ghost use Rattle.goal_text.specs.Names.{Constants};
 ghost use Rattle.goal_print.specs.Kinds as kinds;

@@ -1,5 +1,5 @@
 //! Types are taken apart: what stands for one is put on the pieces, its last part first.
-ghost use Rattle.std.specs.Prelude.{◌≡◌, ◌+◌, ◌++◌, OnOk, not, codes};
+ghost use Rattle.std.specs.Prelude.{◌+◌, ◌++◌, OnOk, codes};
 ghost use Rattle.std.specs.List.{AllByRecursion};
 ghost use Rattle.hol_types.specs.Ty.{FunTy, ConsTy};
 ghost use Rattle.hol_types.specs.TypeStore.{HasName, HasType, text_of, trees_at, type_tree};

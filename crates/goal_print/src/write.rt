@@ -1,6 +1,5 @@
 //! Words are written.
 ghost use Rattle.std.specs.Prelude.{◌≡◌, ◌++◌, OnOk, OnErr};
-ghost use Rattle.std.specs.Fmt.{decimal};
 ghost use Rattle.goal_print.specs.TermText as texts;
 ghost use Rattle.goal_print.specs.Pieces.{HasWord, word_text};
 

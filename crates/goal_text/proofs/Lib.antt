@@ -20,3 +20,14 @@ pub mod DeclareLemmas
 pub mod TermLemmas
 pub mod FactLemmas
 pub mod ProblemLemmas
+pub mod ReadingLemmas
+pub mod GivenTypeLemmas
+pub mod GivenOperationLemmas
+pub mod LiteralLemmas
+pub mod GivenFormLemmas
+pub mod DeclaredLemmas
+pub mod GivenTermLemmas
+pub mod GivenReadLemmas
+pub mod GivenKeptLemmas
+pub mod GivenItemLemmas
+pub mod ProblemKeptLemmas

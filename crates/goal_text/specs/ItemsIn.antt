@@ -11,13 +11,14 @@ use Rattle.goal_text.specs.declared.fault.GoalFailure.TheVariants.{Refused, Memo
 use Rattle.goal_text.specs.declared.items.Items.{Items as Made}
 use Rattle.goal_text.specs.declared.problem.Problem.{Problem}
 use Rattle.goal_text.specs.declared.problem.Declared.{Declared}
-use Rattle.goal_text.specs.Names.{Constants}
+use Rattle.goal_text.specs.Names.{Constructors, Constants}
 use Rattle.goal_text.specs.Items.{Items}
 use Rattle.goal_text.specs.GoalRead.{GoalProblem, GoalRead, FirstFault, lexical_fault, problem_of}
+use Rattle.goal_text.specs.Given.{IsGivenProblem}
 use Rattle.goal_text.specs.Read.{Fails}
 use Rattle.sexp.specs.declared.token.SexpFault.{SexpFault}
 use Rattle.sexp.specs.declared.token.SexpFault.TheVariants as lexical
-use Rattle.goal_text.specs.Scope.{IsScope, consts_in, terms_at, types_in}
+use Rattle.goal_text.specs.Scope.{IsNameOf, IsScope, consts_in, terms_at, types_in}
 use Rattle.goal_text.specs.Sentences.{HasSentence, HaveSentences}
 
 -- the items so far
@@ -46,11 +47,28 @@ pub record AreItems (made : Made) : Type 0 where
   pub facts : HaveSentences made.base made.facts.items
   pub goal : IfSome made.goal (HasSentence made.base)
 
--- the numbers of a problem are those of declarations and sentences
+-- the constructor is declared in the store, with its number of arguments
+abbrev pub HasConstructor : TermStore → List ℕ × ℕ → Type 0
+HasConstructor s c = (n : ℕ) × IsNameOf s n c.0 × (arity_of s.types n ≡ Some c.1)
+
+-- what a problem's numbers stand for, under these type constructors
+abbrev pub said_under : Constructors → Problem → GoalProblem
+said_under types problem = record {
+  types = types;
+  consts = declared_in problem.base problem.consts;
+  facts = terms_at problem.base problem.facts;
+  goal = term_tree problem.base problem.goal;
+}
+
+-- The numbers of a problem are those of declarations and sentences. Its facts and its goal are terms that the grammar gives
+-- under type constructors of its store and its constants.
 pub record IsProblem (problem : Problem) : Type 0 where
   pub declared : AllByRecursion (HasDeclared problem.base) problem.consts
   pub facts : HaveSentences problem.base problem.facts
   pub goal : HasSentence problem.base problem.goal
+  pub types : Constructors
+  pub constructors : AllByRecursion (HasConstructor problem.base) types
+  pub given : IsGivenProblem (said_under types problem)
 
 -- the problem says this: its constants, facts and goal, and its store has the type constructors
 pub record Says (problem : Problem) (said : GoalProblem) : Type 0 where

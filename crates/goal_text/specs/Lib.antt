@@ -13,4 +13,5 @@ pub mod Scope
 pub mod Hiding
 pub mod Bounds
 pub mod Sentences
+pub mod Given
 pub mod ItemsIn

@@ -1,5 +1,5 @@
 //! What a list is read as, once its parts are.
-ghost use Rattle.std.specs.Prelude.{◌≡◌, ◌∷◌, [], List, true, drop, map, take, IfOk, OnOk, Ok};
+ghost use Rattle.std.specs.Prelude.{◌≡◌, ◌∷◌, [], List, true, drop, take, IfOk, OnOk, Ok};
 ghost use Rattle.hol_types.specs.TypeStore.{HasName, HasType, text_of, type_tree};
 ghost use Rattle.hol_terms.specs.Term.{BoundsFit, Term, ty_of};
 ghost use Rattle.hol_terms.specs.TermStore.{Keeps, HasTerm, term_tree};
@@ -7,7 +7,7 @@ ghost use Rattle.goal_text.specs.Bounds.{AllFit, FitsAll};
 ghost use Rattle.goal_text.specs.Forms as forms;
 ghost use Rattle.goal_text.specs.Operations as operations;
 ghost use Rattle.goal_text.specs.Read.{Gives};
-ghost use Rattle.goal_text.specs.Scope.{AreBound, AreTerms, HasHead, IsScope, KeepsDeclared, binders_in, bound_by, form_at, terms_at};
+ghost use Rattle.goal_text.specs.Scope.{AreTerms, HasHead, IsScope, KeepsDeclared, binders_in, bound_by, form_at, terms_at};
 ghost use Rattle.goal_text.specs.Terms as terms;
 
 use crate::constants::quantifier;

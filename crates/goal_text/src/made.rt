@@ -1,6 +1,6 @@
 //! Terms and types that can't be wrong.
-ghost use Rattle.std.specs.Prelude.{◌≡◌, IfOk, Ok};
-ghost use Rattle.hol_types.specs.TypeStore.{HasArity, HasType, HasName, HasTypeParts, text_of, type_tree};
+ghost use Rattle.std.specs.Prelude.{IfOk, Ok};
+ghost use Rattle.hol_types.specs.TypeStore.{HasArity, HasType, HasTypeParts, type_tree};
 ghost use Rattle.hol_types.specs.TypeStore as types;
 ghost use Rattle.hol_terms.specs.Term.{AppTm, ConstTm, Typed};
 ghost use Rattle.hol_terms.specs.TermStore.{Keeps, Applies, HasParts, HasTerm, term_tree, tree_of};
@@ -8,7 +8,7 @@ ghost use Rattle.goal_text.specs.Read.{Gives};
 
 use crate::fault::GoalFailure;
 use hol_terms::{Base, Node, TermId, Terms};
-use hol_types::{NameId, TypeFault, TypeId, TypeNode};
+use hol_types::{TypeFault, TypeId, TypeNode};
 
 /// The number of a typed term.
 pub fn typed(base: &mut Base, node: Node) -> Result<TermId, GoalFailure>

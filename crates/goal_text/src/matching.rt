@@ -1,5 +1,5 @@
 //! The types for a constant's type variables.
-ghost use Rattle.std.specs.Prelude.{◌≡◌, ◌<◌, ◌∷◌, [], None, Some, map, bytes_eq, is_some, IfOk, IfNone, IfSome};
+ghost use Rattle.std.specs.Prelude.{◌≡◌, ◌<◌, [], None, Some, map, bytes_eq, is_some, IfOk, IfNone, IfSome};
 ghost use Rattle.std.specs.List.{AllByRecursion, list_all};
 ghost use Rattle.std.specs.Map.{lookup};
 ghost use Rattle.hol_types.specs.TypeStore.{HasName, HasType, text_of, type_tree};

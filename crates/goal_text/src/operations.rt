@@ -1,6 +1,6 @@
 //! The terms that operations are read as.
 ghost use Rattle.std.specs.Prelude.{◌≡◌, ◌<◌, ◌+◌, ◌++◌, true, Ok, IfOk, OnOk, drop, length, map, slice_index_or};
-ghost use Rattle.hol_types.specs.Ty.{BoolTy, IntTy, FunTy};
+ghost use Rattle.hol_types.specs.Ty.{BoolTy, IntTy};
 ghost use Rattle.hol_types.specs.TyEq.{ty_eq};
 ghost use Rattle.hol_types.specs.TypeStore.{HasType, type_tree};
 ghost use Rattle.hol_terms.specs.Constants as hol;

@@ -10,7 +10,8 @@ pub struct Declared {
     pub ty: TypeId,
 }
 
-/// A goal under facts, in a store of terms.
+/// A goal under facts, in a store of terms. `IsProblem` says what its numbers stand for, and that facts and goal are terms that the
+/// grammar of goal files gives under its declarations.
 #[derive(Drop)]
 pub struct Problem {
     pub base: Base,

@@ -1,12 +1,13 @@
 //! Goal files.
 ghost use Rattle.std.specs.Prelude.{◌≡◌, length, IfOk, IfErr};
 ghost use Rattle.sexp.specs.Forest.{trees_at};
+ghost use Rattle.goal_text.specs.Given.{AreGivenItems};
 ghost use Rattle.goal_text.specs.GoalRead as goals;
 ghost use Rattle.goal_text.specs.Items.{no_items};
 ghost use Rattle.goal_text.specs.ItemsIn.{AreItems, IsFinished, IsLexical, IsProblem, IsRead, Refuses, items_in};
 ghost use Rattle.goal_text.specs.Read.{Gives};
 
-use crate::fault::{GoalFailure, GoalFault, GoalKind, refuse};
+use crate::fault::{GoalFailure, GoalFault, GoalKind};
 use crate::items::{Items, items_at};
 use crate::problem::Problem;
 use crate::scope::Scope;
@@ -60,7 +61,8 @@ fn start(alloc: Global) -> Items
 
 /// The problem that all items of a text of that length say.
 fn finish(items: Items, n: u64) -> Result<Problem, GoalFailure>
-    requires { AreItems items }
+    requires items { AreItems items }
+    requires given { AreGivenItems (items_in items) }
     ensures read { IsFinished items n result }
     ensures problem { IfOk result IsProblem }
 {
@@ -85,7 +87,8 @@ fn finish(items: Items, n: u64) -> Result<Problem, GoalFailure>
     }
 }
 
-/// The problem that a goal file says, or its first fault.
+/// The problem that a goal file says, or its first fault. The problem's facts and goal are terms that the grammar gives under its
+/// declarations (`problem`).
 ///
 /// The file has items `(type s n)`, `(const c T)`, `(fact F)` and exactly one `(goal F)`. Refused exactly where the text is
 /// outside the grammar or its terms don't fit by their types, with the first fault: a text that is too long, then a fault

@@ -1,7 +1,6 @@
 //! What names stand for at a place of the text.
 ghost use Rattle.std.specs.Prelude.{◌≡◌, [], None, Some, bytes_eq, IfSome, MatchOption};
 ghost use Rattle.std.specs.Map.{lookup};
-ghost use Rattle.std.specs.List.{AllByRecursion};
 ghost use Rattle.hol_types.specs.TypeStore.{HasType, type_tree};
 ghost use Rattle.goal_text.specs.Names.{bound_to};
 ghost use Rattle.goal_text.specs.Scope.{AreConstructors, AreConstants, AreBound, IsConstructor, IsConstant, binders_in, consts_in, types_in};

@@ -6,7 +6,7 @@ ghost use Rattle.goal_text.specs.Forms as forms;
 ghost use Rattle.goal_text.specs.Lexicon as lexicon;
 ghost use Rattle.goal_text.specs.Names.{bound_to};
 ghost use Rattle.goal_text.specs.Read.{Gives};
-ghost use Rattle.goal_text.specs.Scope.{AreTerms, IsScope, KeepsDeclared, divides_by, env_of, terms_at};
+ghost use Rattle.goal_text.specs.Scope.{AreTerms, IsScope, divides_by, env_of, terms_at};
 ghost use Rattle.goal_text.specs.Terms as terms;
 
 use crate::built::leave;

@@ -1,21 +1,20 @@
 -- What the replay of a plan's nodes answers.
-use Rattle.std.proofs.Common.{◌≡◌, ◌∙◌, ◌<◌, ◌+◌, ◌-◌, ◌∷◌, [], ◌++◌, ℕ, zero, suc, List, length, map, refl, sym, ap, subst, arith, Result, Ok, Err, IfOk, inl, inr}
+use Rattle.std.proofs.Common.{◌≡◌, ◌∙◌, ◌<◌, ◌-◌, ◌∷◌, [], ℕ, zero, suc, List, length, map, refl, sym, ap, subst, arith, Result, Ok, Err, IfOk, inl, inr}
 use Rattle.std.specs.Prelude.{slice_index_or, All, Option, Some, None, option_map}
 use Rattle.std.proofs.lemmas.Option.{none-some, same_Some}
 use Rattle.std.proofs.lemmas.List.{get_or-map, length-map}
 use Rattle.std.specs.declared.alloc.AllocError.{AllocError}
 use Rattle.hol_terms.specs.Term.{Term}
-use Rattle.hol_terms.specs.TermStore.{TermStore}
 use Rattle.proof_plan.specs.declared.why.Why.{Why}
 use Rattle.proof_plan.specs.PlanValue.{PlanValue, node_at, tree_in, rule_of, premises_of, premise_claims, claim_of, no_node as no_plan_node}
-use Rattle.proof_plan.specs.Accept.{Accept, Verdict, accepted, refused, step_answer}
-use Rattle.proof_plan.specs.IsPlan.{IsPlan, IsNode}
+use Rattle.proof_plan.specs.Accept.{Accept, accepted, refused, step_answer}
+use Rattle.proof_plan.specs.IsPlan.{IsPlan}
 use Rattle.goal_text.specs.Names.{Constants}
 use Rattle.first_form.specs.Source.{Source}
 use Rattle.first_form.specs.ProofForm.{Proof, proof_form}
 use Rattle.first_form.specs.ProofNodes.{ProofNode, nodes_of}
 use Rattle.first_form.specs.ProofPlan.{plan_nodes_in}
-use Rattle.first_form.specs.Steps.{node_in, nodes_in}
+use Rattle.first_form.specs.Steps.{node_in}
 use Rattle.smt_cli.specs.Answers.{Answer, ProvedGoal, FailedAt, replayed, replay_answer, proof_answer, verdict, before, claim_at, no_node}
 use Rattle.smt_cli.specs.declared.line.Line.{Line}
 use Rattle.smt_cli.specs.Follows.{IsProblemStatus}

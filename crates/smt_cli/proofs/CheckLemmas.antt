@@ -1,6 +1,5 @@
 -- How a run of `check` ends, by its line.
-use Rattle.std.proofs.Common.{◌≡◌, ◌∙◌, ◌⊎◌, ℕ, List, [], Option, Some, Ok, Err, true, refl, sym, ap, subst, inl, inr, arith}
-use Rattle.std.specs.Io.KnownBytes.{append_known}
+use Rattle.std.proofs.Common.{◌≡◌, ◌∙◌, ◌⊎◌, ℕ, List, [], Option, Some, Ok, Err, true, refl, sym, subst, inl, inr, arith}
 use Rattle.hol_terms.specs.Derivable.{Derivable}
 use Rattle.hol_terms.specs.TermStore.{term_tree}
 use Rattle.goal_text.specs.declared.fault.GoalFault.{GoalFault}
@@ -11,7 +10,7 @@ use Rattle.goal_text.specs.declared.fault.GoalFailure.TheVariants.{Refused}
 use Rattle.goal_text.specs.ItemsIn.{IsRead, Refuses, Says}
 use Rattle.goal_text.specs.Read.{Read}
 use Rattle.goal_text.proofs.KeptLemmas.{same_Ok}
-use Rattle.smt_cli.specs.Answers.{Answer, GoalRefused, GoalUnbuilt, problem_answer, status_of, text_of}
+use Rattle.smt_cli.specs.Answers.{Answer, GoalRefused, GoalUnbuilt, problem_answer, text_of}
 use Rattle.smt_cli.specs.Checking.{Checks, IsTaken}
 use Rattle.smt_cli.specs.Follows.{Follows, IsCheckStatus, IsLineStatus, IsProblemStatus}
 use Rattle.smt_cli.specs.Problems.{FollowsIn, answer_in, is_unbuilt_in}

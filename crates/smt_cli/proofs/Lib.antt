@@ -3,5 +3,4 @@ pub mod TextLemmas
 pub mod AnswerLemmas
 pub mod CheckLemmas
 pub mod WordLemmas
-pub mod ConstantLemmas
 pub mod LambdaLemmas

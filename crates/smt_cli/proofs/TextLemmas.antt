@@ -1,5 +1,5 @@
 -- A text that is too long says nothing, and so many bytes of it that these are too many already neither.
-use Rattle.std.proofs.Common.{◌≡◌, ◌∙◌, ◌<◌, ◌≤◌, ◌+◌, ℕ, List, length, take, refl, sym, ap, arith, tests, Bool, true, false, if◌then◌else◌, Option, None, Err}
+use Rattle.std.proofs.Common.{◌≡◌, ◌∙◌, ◌<◌, ◌≤◌, ℕ, List, length, take, refl, sym, ap, arith, tests, Bool, true, false, if◌then◌else◌, Option, None, Err}
 use Rattle.std.specs.Prelude.{nat_lt, nat_eq}
 use Rattle.std.specs.List.{list_any}
 use Rattle.std.proofs.lemmas.List.{take_all, length-take-le}

@@ -1,12 +1,12 @@
 -- Only the line of a proved goal begins with the word `proved`.
-use Rattle.std.proofs.Common.{◌≡◌, ◌∙◌, ◌⊎◌, ◌++◌, ℕ, List, Option, Some, take, drop, length, length-append, refl, sym, ap, inl, inr, arith, tests, append_assoc}
+use Rattle.std.proofs.Common.{◌≡◌, ◌∙◌, ◌++◌, ℕ, List, Option, Some, take, drop, length, length-append, refl, sym, ap, inl, inr, arith, tests, append_assoc}
 use Rattle.std.specs.Prelude.{codes, false, nat_eq, slice_index_or}
 use Rattle.std.specs.Io.KnownBytes.{append_known}
 use Rattle.std.proofs.lemmas.List.{append_cancel_left, take-append-drop}
 use Rattle.std.proofs.lemmas.Option.{same_Some}
 use Rattle.smt_cli.specs.Answers.{Answer, GoalRefused, GoalUnbuilt, ProofRefused, FailedAt, ProvedGoal, status_of, text_of}
 use Rattle.smt_cli.specs.CommandLine.{usage_text}
-use Rattle.smt_cli.specs.Writing.{IsLine, IsLineOf, SaysProved, Writes}
+use Rattle.smt_cli.specs.Writing.{IsLine, SaysProved, Writes}
 
 -- a text that begins with the word
 abbrev Begins : List ℕ → Type 0

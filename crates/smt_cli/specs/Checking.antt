@@ -1,5 +1,5 @@
 -- What a run of `check` comes to, by the bytes of its files.
-use Rattle.std.specs.Prelude.{◌≡◌, ℕ, List, Option, Some, Err, true, false}
+use Rattle.std.specs.Prelude.{◌≡◌, ℕ, List, Option, Some, true, false}
 use Rattle.goal_text.specs.declared.fault.GoalFault.{GoalFault}
 use Rattle.goal_text.specs.GoalRead.{FirstFault, GoalProblem, GoalRead}
 use Rattle.smt_cli.specs.Answers.{GoalRefused, GoalUnbuilt, problem_answer}

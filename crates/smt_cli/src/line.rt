@@ -1,7 +1,5 @@
 //! The line that a run prints.
-ghost use Rattle.std.specs.Prelude.{◌≡◌, ◌++◌, IfOk, OnOk};
-ghost use Rattle.proof_plan.specs.Rules.{rule_name};
-ghost use Rattle.proof_plan.specs.WhyText.{why_text};
+ghost use Rattle.std.specs.Prelude.{◌≡◌, IfOk};
 ghost use Rattle.hol_terms.specs.TermStore.{term_tree};
 ghost use Rattle.goal_text.specs.ItemsIn.{IsProblem, declared_in};
 ghost use Rattle.smt_cli.specs.Answers.{GoalRefused, GoalUnbuilt, ProofRefused, FailedAt, ProvedGoal};

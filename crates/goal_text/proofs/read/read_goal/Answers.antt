@@ -1,6 +1,8 @@
 use Rattle.std.proofs.Common.{◌∙◌, sym}
 use Rattle.std.proofs.lemmas.Result.{err_from_is_err_and}
+use Rattle.goal_text.specs.Items.{no_items}
 use Rattle.goal_text.specs.ItemsIn.{items_in}
+use Rattle.goal_text.proofs.GivenItemLemmas.{items_given, no_items_given}
 use Rattle.goal_text.proofs.GoalLemmas.{goal_found, goal_without_goal, goal_without_items, goal_without_trees}
 use Rattle.goal_text.proofs.ProblemLemmas.{fails_from_none, from_none}
 use Rattle.goal_text.proofs.read.read_goal.Goals as goal
@@ -14,6 +16,11 @@ pub returns-in_err-items_at-clause-refused : goal.returns-in_err-items_at-clause
 returns-in_err-items_at-clause-refused c =
     let p = err_from_is_err_and c.from_residual-in_err-items_at.result c.from_residual-in_err-items_at.ensures.1 in
     rw (p.1, p.2) (goal_without_items c.args.bytes.now _ c.in_ok-forest.ensures c.in_err-items_at.field-0.0 (fails_from_none (items_in c.start-items.result) c.in_ok-forest.forest c.len-end.result c.start-items.ensures.none c.len-end.ensures.len c.in_err-items_at.field-0.0 c.in_err-items_at.ensures.read))
+
+pub finish-requires-clause-given : goal.finish-requires-clause-given
+finish-requires-clause-given c =
+    let made = sym (from_none (items_in c.start-items.result) c.in_ok-forest.forest c.len-end.result c.start-items.ensures.none c.len-end.ensures.len) ∙ c.in_ok-items_at.ensures.read in
+    items_given no_items no_items_given _ _ made
 
 pub returns-in_err-problem-clause-refused : goal.returns-in_err-problem-clause-refused
 returns-in_err-problem-clause-refused c =

@@ -1,4 +1,4 @@
-use Rattle.std.proofs.Common.{◌≡◌, inl, inr, refl}
+use Rattle.std.proofs.Common.{inl, inr, refl}
 use Rattle.smt_cli.proofs.CheckLemmas.{early_ends, line_checks, line_ends_somehow}
 use Rattle.smt_cli.proofs.WordLemmas.{said_proved, nothing_says}
 use Rattle.smt_cli.proofs.check.check_one.Goals as goal

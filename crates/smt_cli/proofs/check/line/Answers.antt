@@ -1,4 +1,4 @@
-use Rattle.std.proofs.Common.{◌≡◌, ◌∙◌, sym, ap, subst}
+use Rattle.std.proofs.Common.{◌∙◌, sym, ap, subst}
 use Rattle.goal_text.specs.GoalRead.{goal_read}
 use Rattle.smt_cli.specs.Answers.{Answer, GoalRefused}
 use Rattle.smt_cli.specs.Writing.{IsLineOf}

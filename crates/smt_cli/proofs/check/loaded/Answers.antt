@@ -1,4 +1,3 @@
-use Rattle.std.proofs.Common.{◌≡◌}
 use Rattle.smt_cli.proofs.TextLemmas.{goal_cut, proof_cut}
 use Rattle.smt_cli.proofs.check.loaded.Goals as goal
 

@@ -1,13 +1,13 @@
-use Rattle.std.proofs.Common.{◌≡◌, ◌∙◌, ap, subst, sym}
+use Rattle.std.proofs.Common.{◌∙◌, ap, subst}
 use Rattle.hol_terms.specs.TermStore.{term_tree}
 use Rattle.goal_text.specs.ItemsIn.{declared_in}
+use Rattle.goal_text.proofs.ProblemKeptLemmas.{constants_same, problem_kept}
 use Rattle.first_form.specs.ProofForm.{proof_form}
 use Rattle.first_form.specs.Source.{source_at}
 use Rattle.smt_cli.specs.Answers.{Answer}
 use Rattle.smt_cli.specs.PlanAnswers.{plan_answer}
 use Rattle.smt_cli.specs.Writing.{IsLineOf}
 use Rattle.smt_cli.proofs.AnswerLemmas.{answer_is}
-use Rattle.smt_cli.proofs.ConstantLemmas.{constants_same, problem_kept}
 use Rattle.smt_cli.proofs.check.problem_line.Goals as goal
 
 pub replay_line-requires-clause-problem : goal.replay_line-requires-clause-problem

@@ -1,4 +1,4 @@
-use Rattle.std.proofs.Common.{◌≡◌, ◌∙◌, IfOk, sym, ap, subst}
+use Rattle.std.proofs.Common.{◌∙◌, IfOk, sym, ap, subst}
 use Rattle.hol_terms.specs.TermStore.{term_tree}
 use Rattle.goal_text.specs.ItemsIn.{IsProblem, declared_in}
 use Rattle.discharge.specs.ProvedValue.{ProvedValue}

@@ -1,4 +1,4 @@
-use Rattle.std.proofs.Common.{◌≡◌, ◌∙◌, false, true, sym}
+use Rattle.std.proofs.Common.{◌≡◌, ◌∙◌, false, sym}
 use Rattle.std.specs.List.{list_any}
 use Rattle.hol_formulas.specs.FoundTypes.{AreTypeVariables, type_variables_in}
 use Rattle.goal_text.specs.Scope.{terms_at}

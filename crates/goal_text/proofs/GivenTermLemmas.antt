@@ -17,25 +17,21 @@ use Rattle.goal_text.specs.declared.fault.GoalKind.TheVariants.{Number, Syntax, 
 use Rattle.goal_text.specs.declared.word.Binder.{Binder}
 use Rattle.goal_text.specs.declared.word.Binder.TheVariants as binders
 use Rattle.goal_text.specs.Read.{Read, ◌>>=◌}
-use Rattle.goal_text.specs.Lexicon.{is_name, is_number, is_variable, misfit, misplaced, value_of}
+use Rattle.goal_text.specs.Lexicon.{is_number, is_variable, misfit, misplaced, value_of}
 use Rattle.goal_text.specs.Names.{Env, Constructors, Constants, Binders, bound_to, one_further}
 use Rattle.goal_text.specs.Matching.{is_ground, is_instance, covers, instance_by, match_parameters}
 use Rattle.goal_text.specs.Operations.{fits_body, under_all}
 use Rattle.goal_text.specs.Forms.{Form, Applied, Instance, Negative, Operation, Binding, Ascription, Part, Skipped, ReadTerm, Divisor, inside, operands, is_literal}
 use Rattle.goal_text.specs.Terms.{constant_by, name_by, literal_of, atom_of, divisor_of, takes_all, applied, apply_all, negative, term_of, terms_of}
 use Rattle.goal_text.proofs.KeptLemmas.{bind_ok, no_fault, same_Ok, wanting_ok, further_of}
-use Rattle.goal_print.specs.Given.{IsGivenType, binder_at, IsGiven, given_bound, given_constant, given_number, given_negative, given_true, given_false, given_not, given_and, given_or, given_implies, given_equation, given_conditional, given_add, given_mul, given_sub, given_neg, given_at_most, given_less, given_quotient, given_remainder, given_all, given_ex, given_lambda, given_application}
-use Rattle.goal_print.proofs.ReadingLemmas.{if_read, test_passed}
-use Rattle.goal_print.proofs.GivenTypeLemmas.{to_given, fun_given, truth_given, integer_given, parameters_given, is_its_instance, closed_is_instance, closed_own}
-use Rattle.goal_print.proofs.GivenOperationLemmas.{IsDivisor, AreGiven}
-use Rattle.goal_print.proofs.GivenFormLemmas.{binder_types, TypesGiven, FormSays}
+use Rattle.goal_text.specs.Given.{AreDeclared, IsGivenType, binder_at, IsGiven, given_bound, given_constant, given_number, given_negative, given_true, given_false, given_not, given_and, given_or, given_implies, given_equation, given_conditional, given_add, given_mul, given_sub, given_neg, given_at_most, given_less, given_quotient, given_remainder, given_all, given_ex, given_lambda, given_application}
+use Rattle.goal_text.proofs.DeclaredLemmas.{declared_given, declared_named}
+use Rattle.goal_text.proofs.ReadingLemmas.{if_read, test_passed}
+use Rattle.goal_text.proofs.GivenTypeLemmas.{to_given, fun_given, truth_given, integer_given, parameters_given, is_its_instance, closed_is_instance, closed_own}
+use Rattle.goal_text.proofs.GivenOperationLemmas.{IsDivisor, AreGiven}
+use Rattle.goal_text.proofs.GivenFormLemmas.{binder_types, TypesGiven, FormSays}
 
--- each declared constant has a name and a given type
-pub record AreDeclared (types : Constructors) (consts : Constants) : Type 0 where
-  pub named : (name : List ℕ) (type : Ty) → lookup (bytes_eq name) consts ≡ Some type → is_name name ≡ true
-  pub given : (name : List ℕ) (type : Ty) → lookup (bytes_eq name) consts ≡ Some type → IsGivenType types type
-
--- and so has each binder
+-- constants are declared, and each binder has a given type
 pub record IsGivenEnv (env : Env) : Type 0 where
   pub declared : AreDeclared env.types env.consts
   pub binders : TypesGiven env.types (binder_types env.binders)
@@ -107,12 +103,12 @@ constant_given env g (Some type) at text t e h =
     let closed = test_passed (is_ground type) FreeTypeVariable at (Ok (ConstTm text type)) t h in
     let Q : Term → Type 0 = λ u. IsGiven env.types env.consts (binder_types env.binders) u in
     subst Q (same_Ok (ConstTm text type) t (wanting_ok (is_ground type) FreeTypeVariable at (Ok (ConstTm text type)) t h)) (given_constant (record {
-      named = g.declared.named text type e;
+      named = declared_named env.types env.consts text type g.declared e;
       declared = type;
       looked_up = e;
       own = λ k. refl;
       an_instance = closed_is_instance type closed;
-      given = g.declared.given text type e;
+      given = declared_given env.types env.consts text type g.declared e;
     }))
 
 name_given : (env : Env) → IsGivenEnv env → (o : Option (ℕ × Ty)) (at : ℕ) (text : List ℕ) (t : Term) → bound_to env.binders text ≡ o → name_by o env at text ≡ Ok t → IsGiven env.types env.consts (binder_types env.binders) t
@@ -195,18 +191,18 @@ module _ (types : Constructors) (consts : Constants) (bs : List Ty) where
   instance_term_given declared binders (Some s) at head name type ts t found open_type all e h =
       let covered = test_passed (covers s type) FreeTypeVariable head (Ok (ConstTm name (instance_of s type))) t h in
       subst (λ u. IsGiven types consts bs u) (same_Ok (ConstTm name (instance_of s type)) t (wanting_ok (covers s type) FreeTypeVariable head (Ok (ConstTm name (instance_of s type))) t h)) (given_constant (record {
-        named = declared.named name type found;
+        named = declared_named types consts name type declared found;
         declared = type;
         looked_up = found;
         own = λ k. absurd (true≢false (sym k ∙ open_type));
         an_instance = is_its_instance s type covered;
-        given = parameters_given types type (map ty_of ts) s (declared.given name type found) (types_given types consts bs ts binders all) e;
+        given = parameters_given types type (map ty_of ts) s (declared_given types consts name type declared found) (types_given types consts bs ts binders all) e;
       }))
 
   -- the constant at the type that is written
   pub ascribed_given : AreDeclared types consts → (name : List ℕ) (declared type : Ty) → lookup (bytes_eq name) consts ≡ Some declared → IsGivenType types type → is_instance declared type ≡ true → IsGiven types consts bs (ConstTm name type)
   ascribed_given are name declared type found given h = given_constant (record {
-    named = are.named name declared found;
+    named = declared_named types consts name declared are found;
     declared = declared;
     looked_up = found;
     own = λ k. closed_own declared type k h;

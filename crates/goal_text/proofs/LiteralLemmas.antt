@@ -11,7 +11,7 @@ use Rattle.goal_text.specs.declared.word.Operator.{Operator}
 use Rattle.goal_text.specs.declared.word.Operator.TheVariants as operators
 use Rattle.goal_text.specs.Operations.{takes, fits, all_are, to_the_right, to_the_left, neighbours, differs, differences, meaning}
 use Rattle.goal_text.specs.Terms.{applied, negative}
-use Rattle.goal_print.specs.Given.{IsPositive}
+use Rattle.goal_text.specs.Given.{IsPositive}
 
 -- a literal from 1 is a number
 pub positive_is_number : (t : Term) → IsPositive t → ty_of t ≡ IntTy

@@ -19,8 +19,8 @@ use Rattle.goal_text.specs.Types.{TypeForm, Arrows, Constructed, alone, type_ato
 use Rattle.goal_text.specs.Matching.{◌>>?◌, giving, match_ty, match_tys, match_parameters, is_instance, covers, is_ground, are_none}
 use Rattle.goal_text.proofs.KeptLemmas.{bind_ok, no_fault, same_Ok, wanting_ok}
 use Rattle.goal_text.proofs.MatchLemmas.{IsOutcome, match_outcome, ground_covers}
-use Rattle.goal_print.specs.Given.{how_many, IsGivenType, AreGivenTypes}
-use Rattle.goal_print.proofs.ReadingLemmas.{if_read, test_passed}
+use Rattle.goal_text.specs.Given.{how_many, IsGivenType, AreGivenTypes}
+use Rattle.goal_text.proofs.ReadingLemmas.{if_read, test_passed}
 
 -- ---- types that are read
 

@@ -19,12 +19,12 @@ use Rattle.goal_text.specs.Operations.{takes, fits, fits_body, meaning, under, u
 use Rattle.goal_text.specs.Forms.{Form, Applied, Instance, Negative, Operation, Binding, Ascription, Part, Skipped, ReadTerm, Divisor, form_of, inside, parts_of, operands, divides, is_literal, is_literal_tree}
 use Rattle.goal_text.specs.Terms.{constant_by, name_by, atom_of, divisor_of, takes_all, applied, apply_all, negative, built, term_of, terms_of}
 use Rattle.goal_text.proofs.KeptLemmas.{bind_ok, no_fault, same_Ok, wanting_ok}
-use Rattle.goal_print.specs.Given.{IsPositive, IsGiven}
-use Rattle.goal_print.proofs.ReadingLemmas.{if_read, test_passed}
-use Rattle.goal_print.proofs.GivenOperationLemmas.{AreGiven, PartsFit, meaning_given}
-use Rattle.goal_print.proofs.GivenFormLemmas.{binder_types, FormSays, form_says}
-use Rattle.goal_print.proofs.LiteralLemmas.{negative_not_positive, applied_not_positive, meaning_not_positive}
-use Rattle.goal_print.proofs.GivenTermLemmas.{IsGivenEnv, atom_given, apply_all_given, instance_term_given, ascribed_given, negative_given, under_given, inside_given, operands_read, terms_counted, behind_read, only_read, literal_alone, second_read, divisor_read, divisor_given}
+use Rattle.goal_text.specs.Given.{IsPositive, IsGiven}
+use Rattle.goal_text.proofs.ReadingLemmas.{if_read, test_passed}
+use Rattle.goal_text.proofs.GivenOperationLemmas.{AreGiven, PartsFit, meaning_given}
+use Rattle.goal_text.proofs.GivenFormLemmas.{binder_types, FormSays, form_says}
+use Rattle.goal_text.proofs.LiteralLemmas.{negative_not_positive, applied_not_positive, meaning_not_positive}
+use Rattle.goal_text.proofs.GivenTermLemmas.{IsGivenEnv, atom_given, apply_all_given, instance_term_given, ascribed_given, negative_given, under_given, inside_given, operands_read, terms_counted, behind_read, only_read, literal_alone, second_read, divisor_read, divisor_given}
 
 -- ---- a literal from 1 is a number's tree
 

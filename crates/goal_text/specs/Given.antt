@@ -1,12 +1,15 @@
--- The types and terms that the grammar of goal files gives.
-use Rattle.std.specs.Prelude.{◌≡◌, ℕ, zero, suc, ◌+◌, ◌^◌, ◌<◌, List, [], ◌∷◌, Option, Some, None, true, bytes_eq, pos, negsuc}
+-- The types, the terms and the problems that the grammar of goal files gives.
+use Rattle.std.specs.Prelude.{◌≡◌, ℕ, zero, suc, ◌+◌, ◌^◌, ◌<◌, List, [], ◌∷◌, Option, Some, None, IfSome, true, bytes_eq, pos, negsuc}
 use Rattle.std.specs.Map.{lookup}
+use Rattle.std.specs.List.{AllByRecursion}
 use Rattle.hol_types.specs.Ty.{Ty, Tys, BoolTy, IntTy, VarTy, FunTy, ConsTy, no_types, more_types}
 use Rattle.hol_terms.specs.Term.{Term, FreeTm, BoundTm, ConstTm, NumTm, AppTm, LamTm, ty_of}
 use Rattle.hol_terms.specs.Constants.{true_tm, false_tm, negation, conjunction, disjunction, implication, equation, conditional, add, mul, neg, sub, at_most, less, quotient, remainder, for_all, exists}
 use Rattle.goal_text.specs.Lexicon.{is_name, is_type_variable}
 use Rattle.goal_text.specs.Names.{Constructors, Constants}
 use Rattle.goal_text.specs.Matching.{is_ground, is_instance}
+use Rattle.goal_text.specs.Items.{Items}
+use Rattle.goal_text.specs.GoalRead.{GoalProblem}
 
 -- ---- types
 
@@ -82,3 +85,37 @@ pub data IsGiven (types : Constructors) (consts : Constants) : List Ty → Term 
   given_ex : {bs : List Ty} {t : Ty} {b : Term} → IsGivenType types t → IsGiven types consts (t ∷ bs) b → ty_of b ≡ BoolTy → IsGiven types consts bs (exists t (LamTm t b))
   given_lambda : {bs : List Ty} {t : Ty} {b : Term} → IsGivenType types t → IsGiven types consts (t ∷ bs) b → IsGiven types consts bs (LamTm t b)
   given_application : {bs : List Ty} {f x : Term} {r : Ty} → IsGiven types consts bs f → IsGiven types consts bs x → ty_of f ≡ FunTy (ty_of x) r → IsGiven types consts bs (AppTm f x)
+
+-- ---- problems
+
+-- each type constructor is declared under a name, and no second time, with 0 to 8 arguments
+abbrev pub AreDeclaredTypes : Constructors → Type 0
+AreDeclaredTypes [] = Unit {0}
+AreDeclaredTypes (c ∷ types) = (is_name c.0 ≡ true) × (lookup (bytes_eq c.0) types ≡ None) × (c.1 < 9) × AreDeclaredTypes types
+
+-- each constant is declared under a name, and no second time, with a given type
+abbrev pub AreDeclared : Constructors → Constants → Type 0
+AreDeclared types [] = Unit {0}
+AreDeclared types (c ∷ consts) = (is_name c.0 ≡ true) × (lookup (bytes_eq c.0) consts ≡ None) × IsGivenType types c.1 × AreDeclared types consts
+
+-- a formula under no binders
+pub record IsGivenFormula (types : Constructors) (consts : Constants) (t : Term) : Type 0 where
+  pub given : IsGiven types consts [] t
+  pub formula : ty_of t ≡ BoolTy
+
+abbrev pub AreGivenFormulas : Constructors → Constants → List Term → Type 0
+AreGivenFormulas types consts ts = AllByRecursion (IsGivenFormula types consts) ts
+
+-- names are declared as the grammar has it, and facts and goal are formulas that it gives under these declarations
+pub record IsGivenProblem (said : GoalProblem) : Type 0 where
+  pub types : AreDeclaredTypes said.types
+  pub consts : AreDeclared said.types said.consts
+  pub facts : AreGivenFormulas said.types said.consts said.facts
+  pub goal : IsGivenFormula said.types said.consts said.goal
+
+-- the same of items, of which the goal may not be read yet
+pub record AreGivenItems (items : Items) : Type 0 where
+  pub types : AreDeclaredTypes items.types
+  pub consts : AreDeclared items.types items.consts
+  pub facts : AreGivenFormulas items.types items.consts items.facts
+  pub goal : IfSome items.goal (IsGivenFormula items.types items.consts)

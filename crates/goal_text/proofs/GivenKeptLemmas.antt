@@ -5,7 +5,7 @@ use Rattle.std.specs.Map.{lookup}
 use Rattle.hol_types.specs.Ty.{Ty, Tys, BoolTy, IntTy, VarTy, FunTy, ConsTy, no_types, more_types}
 use Rattle.hol_terms.specs.Term.{Term}
 use Rattle.goal_text.specs.Names.{Constructors, Constants}
-use Rattle.goal_print.specs.Given.{how_many, IsGivenType, AreGivenTypes, IsGivenConstant, IsGiven, given_bound, given_constant, given_number, given_negative, given_true, given_false, given_not, given_and, given_or, given_implies, given_equation, given_conditional, given_add, given_mul, given_sub, given_neg, given_at_most, given_less, given_quotient, given_remainder, given_all, given_ex, given_lambda, given_application}
+use Rattle.goal_text.specs.Given.{how_many, IsGivenType, AreGivenTypes, IsGivenConstant, IsGiven, given_bound, given_constant, given_number, given_negative, given_true, given_false, given_not, given_and, given_or, given_implies, given_equation, given_conditional, given_add, given_mul, given_sub, given_neg, given_at_most, given_less, given_quotient, given_remainder, given_all, given_ex, given_lambda, given_application}
 
 -- what is declared by the one is declared by the other
 pub record Declares {X : Type 0} (old new : List (List ℕ × X)) : Type 0 where

@@ -18,9 +18,9 @@ use Rattle.goal_text.specs.Matching.{is_ground}
 use Rattle.goal_text.specs.Operations.{takes}
 use Rattle.goal_text.specs.Forms.{Form, Applied, Instance, Negative, Operation, Binding, Ascription, instanced, application, is_minus, is_literal, operation, binder_of, binders_of, binder_list, binding, declared_by, constant_of, ascription, head_word, headed, form_of}
 use Rattle.goal_text.proofs.KeptLemmas.{bind_ok, no_fault, same_Ok, wanting_ok}
-use Rattle.goal_print.specs.Given.{IsGivenType}
-use Rattle.goal_print.proofs.ReadingLemmas.{test_passed}
-use Rattle.goal_print.proofs.GivenTypeLemmas.{given_type}
+use Rattle.goal_text.specs.Given.{IsGivenType}
+use Rattle.goal_text.proofs.ReadingLemmas.{test_passed}
+use Rattle.goal_text.proofs.GivenTypeLemmas.{given_type}
 
 -- the types of binders
 abbrev pub binder_types : Binders → List Ty

@@ -11,7 +11,7 @@ use Rattle.goal_text.specs.declared.word.Operator.{Operator}
 use Rattle.goal_text.specs.declared.word.Operator.TheVariants as operators
 use Rattle.goal_text.specs.Names.{Constructors, Constants}
 use Rattle.goal_text.specs.Operations.{fits, all_are, are_alike, to_the_right, to_the_left, neighbours, all_of, differs, differences, on_two, on_three, minus, meaning}
-use Rattle.goal_print.specs.Given.{IsPositive, IsGiven, given_true, given_not, given_and, given_or, given_implies, given_equation, given_conditional, given_add, given_mul, given_sub, given_neg, given_at_most, given_less, given_quotient, given_remainder}
+use Rattle.goal_text.specs.Given.{IsPositive, IsGiven, given_true, given_not, given_and, given_or, given_implies, given_equation, given_conditional, given_add, given_mul, given_sub, given_neg, given_at_most, given_less, given_quotient, given_remainder}
 
 -- a literal from 1
 pub record IsDivisor (t : Term) : Type 0 where
