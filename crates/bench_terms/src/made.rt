@@ -1,5 +1,5 @@
 //! Terms with many shared parts.
-ghost use Rattle.std.specs.Prelude.{◌≡◌, IfSome};
+ghost use Rattle.std.specs.Prelude.{IfSome};
 ghost use Rattle.hol_terms.specs.TermStore.{HasTerm, Keeps};
 
 use hol_terms::{Base, FreeKind, Node, TermId, Terms};

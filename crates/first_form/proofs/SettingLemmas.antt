@@ -1,6 +1,5 @@
 -- What a setting stands for, as the store grows.
 use Rattle.std.proofs.Common.{◌≡◌, ℕ, List, [], ◌∷◌, ◌++◌, refl, sym, ap, ◌∙◌}
-use Rattle.hol_types.specs.TypeStore.{text_of, type_tree}
 use Rattle.hol_terms.specs.Constants.{negation}
 use Rattle.hol_terms.specs.TermStore.{TermStore, Keeps, term_tree}
 use Rattle.goal_text.specs.declared.problem.Problem.{Problem}

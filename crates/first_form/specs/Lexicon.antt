@@ -1,5 +1,5 @@
 -- What the numbers of a lexicon stand for.
-use Rattle.std.specs.Prelude.{◌≡◌, ℕ, List, [], Option, Some, map, if◌then◌else◌, bytes_eq, codes}
+use Rattle.std.specs.Prelude.{◌≡◌, ℕ, List, Option, Some, map, if◌then◌else◌, bytes_eq, codes}
 use Rattle.std.specs.List.{AllByRecursion}
 use Rattle.std.specs.Map.{lookup}
 use Rattle.hol_types.specs.Ty.{BoolTy}

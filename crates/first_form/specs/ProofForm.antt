@@ -1,5 +1,5 @@
 -- The first proof form: `asserted`, `mp` and `unit-resolution`, down to `false`.
-use Rattle.std.specs.Prelude.{ℕ, ◌+◌, List, [], ◌∷◌, ◌++◌, Option, Some, None, Bool, false, ◌&&◌, if◌then◌else◌, nat_eq, nat_lt, bytes_eq, codes}
+use Rattle.std.specs.Prelude.{ℕ, ◌+◌, List, Option, Some, None, Bool, false, ◌&&◌, if◌then◌else◌, nat_eq, nat_lt, bytes_eq, codes}
 use Rattle.std.specs.List.{list_any}
 use Rattle.hol_terms.specs.Term.{Term}
 use Rattle.hol_terms.specs.TermEq.{term_eq}

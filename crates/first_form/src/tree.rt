@@ -1,6 +1,6 @@
 //! What readers ask of trees.
-ghost use Rattle.std.specs.Prelude.{◌≡◌, ◌+◌, ◌<◌, ◌≤◌, None, false, IfSome, MatchOption, Some};
-ghost use Rattle.sexp.specs.Tree.{AtomTree, ListTree, no_trees, more_trees, place};
+ghost use Rattle.std.specs.Prelude.{◌≡◌, ◌+◌, ◌<◌, None, false, IfSome, MatchOption, Some};
+ghost use Rattle.sexp.specs.Tree.{AtomTree, ListTree, place};
 ghost use Rattle.sexp.specs.Forest.{tree_at, trees_at, after_of, HasTree, IsRun};
 ghost use Rattle.first_form.specs.Trees as trees;
 

@@ -3,7 +3,7 @@ ghost use Rattle.std.specs.Prelude.{◌≡◌, ◌↔◌, IsTrue, IfOk, IfSome, 
 ghost use Rattle.hol_types.specs.Ty.{Ty, BoolTy, FunTy};
 ghost use Rattle.hol_types.specs.TypeStore.{HasName, HasType, text_of, type_tree};
 ghost use Rattle.hol_terms.specs.Term.{Term, ConstTm, AppTm, LamTm, Typed, ty_of};
-ghost use Rattle.hol_terms.specs.TermStore.{HasTerm, Keeps, TermsApart, term_tree};
+ghost use Rattle.hol_terms.specs.TermStore.{HasTerm, Keeps, term_tree};
 ghost use Rattle.hol_terms.specs.Substitution.{IsClosed, IsFreeVariable};
 ghost use Rattle.hol_terms.specs.Constants.{for_all, exists, chosen};
 ghost use Rattle.hol_terms.specs.Derivable.{abstraction};

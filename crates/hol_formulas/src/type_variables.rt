@@ -1,5 +1,5 @@
 //! The type variables of formulas, by number.
-ghost use Rattle.std.specs.Prelude.{◌≡◌, ◌<◌, ◌+◌, ◌*◌, OnOk, IfOk};
+ghost use Rattle.std.specs.Prelude.{◌<◌, ◌*◌, OnOk, IfOk};
 ghost use Rattle.std.specs.List.{AllByRecursion};
 ghost use Rattle.hol_types.specs.TypeStore.{HasType, type_tree, trees_at};
 ghost use Rattle.hol_types.specs.TypeSubst.{variables_of, variables_of_all};

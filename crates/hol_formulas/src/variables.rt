@@ -1,5 +1,5 @@
 //! The free variables of formulas, by number.
-ghost use Rattle.std.specs.Prelude.{◌≡◌, ◌+◌, ◌*◌, OnOk, IfOk};
+ghost use Rattle.std.specs.Prelude.{◌*◌, OnOk, IfOk};
 ghost use Rattle.hol_terms.specs.TermStore.{HasTerm, term_tree};
 ghost use Rattle.hol_formulas.specs.Formulas.{HasFormulas, trees};
 ghost use Rattle.hol_formulas.specs.Found.{AreVariables, Finds, AllFound, Adds};

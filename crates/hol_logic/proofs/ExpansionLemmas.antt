@@ -1,17 +1,15 @@
 -- Predicates as lambdas.
-use Rattle.std.proofs.Common.{◌≡◌, ◌∷◌, ◌++◌, ◌∙◌, [], refl, sym, ap, subst, ⊎_elim, ℕ, List, Bool, true, ◌&&◌}
-use Rattle.hol_types.specs.Ty.{Ty, BoolTy, FunTy}
-use Rattle.hol_types.specs.TypeStore.{type_tree}
+use Rattle.std.proofs.Common.{◌≡◌, ◌∷◌, ◌++◌, ◌∙◌, [], refl, sym, ap, subst, ⊎_elim, ℕ, true, ◌&&◌}
+use Rattle.hol_types.specs.Ty.{Ty, BoolTy}
 use Rattle.hol_terms.specs.Term.{Term, BoundTm, AppTm, LamTm, ty_of}
-use Rattle.hol_terms.specs.TermStore.{TermStore, term_tree}
 use Rattle.hol_terms.specs.Substitution.{IsClosed, free_variables, subst_bound}
-use Rattle.hol_terms.specs.Formula.{In, NotFreeIn, SameMembers}
+use Rattle.hol_terms.specs.Formula.{In, NotFreeIn}
 use Rattle.hol_terms.specs.Constants.{equation}
 use Rattle.hol_terms.proofs.SetLemmas.{in_append_either, same_trans, within_nothing}
 use Rattle.hol_terms.proofs.SubstitutionLemmas.{opened_same}
 use Rattle.hol_formulas.specs.declared.binder.Binder.{Binder}
 use Rattle.lcf_kernel.specs.RuleForms.{IsRedex}
-use Rattle.lcf_kernel.specs.KernelState.{KernelState, HasThm, concl_of, hyps_of, bare_of, KeepsAll}
+use Rattle.lcf_kernel.specs.KernelState.{KernelState, hyps_of, bare_of, KeepsAll}
 use Rattle.hol_logic.specs.States.{States}
 use Rattle.hol_logic.specs.Under.{IsUnder}
 use Rattle.hol_logic.specs.Quantified.{IsExpanded}

@@ -6,19 +6,18 @@ use Rattle.hol_types.specs.TypeStore.{type_tree}
 use Rattle.hol_terms.specs.Term.{Term, FreeTm, LamTm, BoundsFit, ty_of}
 use Rattle.hol_terms.specs.declared.node.FreeKind.TheVariants.{Open}
 use Rattle.hol_terms.specs.TermStore.{TermStore, term_tree}
-use Rattle.hol_terms.specs.Substitution.{IsClosed, IsFreeVariable, subst_bound}
-use Rattle.hol_terms.specs.Formula.{In, IsFormula, IsTerm, NotFreeIn}
+use Rattle.hol_terms.specs.Substitution.{IsFreeVariable, subst_bound}
+use Rattle.hol_terms.specs.Formula.{In, IsFormula, NotFreeIn}
 use Rattle.hol_terms.specs.Constants.{negation, for_all, exists, chosen}
 use Rattle.hol_terms.specs.Derivable.{abstraction, applied}
-use Rattle.hol_terms.proofs.FormulaLemmas.{Has, formula_has, for_all_is_formula, exists_is_formula, negation_is_formula, has_chosen}
-use Rattle.hol_terms.proofs.DerivedFormulas.{body_has}
+use Rattle.hol_terms.proofs.FormulaLemmas.{Has, for_all_is_formula, exists_is_formula}
 use Rattle.hol_terms.proofs.SubstitutionLemmas.{opened_back}
 use Rattle.hol_terms.proofs.SetLemmas.{in_append_either}
 use Rattle.hol_terms.proofs.QuantifierRules.{free_in_none}
 use Rattle.hol_formulas.specs.declared.binder.Binder.{Binder}
 use Rattle.hol_formulas.proofs.TreesLemmas.{from_trees}
 use Rattle.lcf_kernel.specs.RuleForms.{IsGeneral, IsUniversal, IsExistence, IsWitness}
-use Rattle.lcf_kernel.specs.KernelState.{KernelState, concl_of, hyps_of, context_of, all_hyps_of, IsKernel, KeepsAll}
+use Rattle.lcf_kernel.specs.KernelState.{KernelState, hyps_of, context_of, all_hyps_of, IsKernel, KeepsAll}
 use Rattle.hol_logic.specs.Under.{IsUnder}
 use Rattle.hol_logic.specs.Quantified.{IsFresh, IsPredicate, all_stated, some_stated, all_contrary, some_contrary}
 use Rattle.hol_logic.proofs.BodyLemmas.{InBody, body_in, in_app, in_const, lambda_is}

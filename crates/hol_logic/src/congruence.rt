@@ -1,6 +1,5 @@
 //! Equal functions of equal arguments.
 ghost use Rattle.std.specs.Prelude.{◌≡◌, ◌↔◌, ◌++◌, ◌&&◌, IsTrue, IfOk, IfErr};
-ghost use Rattle.hol_types.specs.Ty.{FunTy};
 ghost use Rattle.hol_terms.specs.Term.{BoundTm, AppTm, Typed, result_ty, ty_of};
 ghost use Rattle.hol_terms.specs.TermStore.{HasTerm, term_tree};
 ghost use Rattle.hol_terms.specs.Formula.{IsTerm};

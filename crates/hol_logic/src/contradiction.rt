@@ -3,7 +3,7 @@ ghost use Rattle.std.specs.Prelude.{◌≡◌, ◌∷◌, List, IfOk, IfErr};
 ghost use Rattle.hol_terms.specs.Term.{Term};
 ghost use Rattle.hol_terms.specs.TermStore.{term_tree};
 ghost use Rattle.hol_terms.specs.Formula.{In};
-ghost use Rattle.hol_terms.specs.Constants.{negation, disjunction};
+ghost use Rattle.hol_terms.specs.Constants.{negation};
 ghost use Rattle.hol_formulas.specs.Formulas.{HasFormula};
 ghost use Rattle.lcf_kernel.specs.KernelState.{HasThm, concl_of, KeepsAll};
 ghost use Rattle.hol_logic.specs.Under.{IsUnder};

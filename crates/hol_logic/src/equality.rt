@@ -1,10 +1,9 @@
 //! Rules of equality.
 ghost use Rattle.std.specs.Prelude.{◌≡◌, ◌++◌, ◌&&◌, IfOk, IfErr, IfSome, IfNone};
-ghost use Rattle.hol_types.specs.Ty.{FunTy};
-ghost use Rattle.hol_terms.specs.Term.{AppTm, LamTm, Typed, ty_of};
+ghost use Rattle.hol_terms.specs.Term.{LamTm, ty_of};
 ghost use Rattle.hol_terms.specs.Substitution.{subst_bound};
 ghost use Rattle.hol_terms.specs.TermStore.{HasTerm, TermsApart, term_tree};
-ghost use Rattle.hol_terms.specs.Formula.{IsFormula, IsTerm};
+ghost use Rattle.hol_terms.specs.Formula.{IsTerm};
 ghost use Rattle.hol_terms.specs.Constants.{equation};
 ghost use Rattle.lcf_kernel.specs.KernelState.{HasThm, concl_of, hyps_of, bare_of, KeepsAll};
 ghost use Rattle.hol_logic.specs.States.{States, Equates, Equal};

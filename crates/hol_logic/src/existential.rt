@@ -9,7 +9,7 @@ ghost use Rattle.hol_formulas.specs.Constants.{IsAt};
 ghost use Rattle.hol_formulas.specs.Formulas.{HasFormula};
 ghost use Rattle.lcf_kernel.specs.KernelState.{HasThm, concl_of, KeepsAll};
 ghost use Rattle.hol_logic.specs.Under.{IsUnder};
-ghost use Rattle.hol_logic.specs.Quantified.{IsFresh, IsPredicate, all_stated, all_contrary, some_stated, some_contrary};
+ghost use Rattle.hol_logic.specs.Quantified.{IsFresh, IsPredicate, all_contrary, some_stated};
 
 use crate::contradiction::{assumed, denied};
 use crate::fresh::fresh;

@@ -2,7 +2,7 @@
 ghost use Rattle.std.specs.Prelude.{◌≡◌, [], true, IfOk, IfErr};
 ghost use Rattle.hol_types.specs.Ty.{Ty, BoolTy, FunTy};
 ghost use Rattle.hol_types.specs.TypeStore.{HasType, type_tree};
-ghost use Rattle.hol_terms.specs.Term.{Term, BoundTm, AppTm, LamTm, ty_of};
+ghost use Rattle.hol_terms.specs.Term.{Term, BoundTm, LamTm, ty_of};
 ghost use Rattle.hol_terms.specs.TermStore.{HasTerm, term_tree};
 ghost use Rattle.hol_terms.specs.Substitution.{subst_bound};
 ghost use Rattle.hol_terms.specs.Formula.{IsTerm};
@@ -11,7 +11,7 @@ ghost use Rattle.hol_formulas.specs.Constants.{IsAt};
 ghost use Rattle.lcf_kernel.specs.KernelState.{HasThm, concl_of, KeepsAll};
 ghost use Rattle.hol_logic.specs.States.{States, Equal};
 ghost use Rattle.hol_logic.specs.DerivedForms.{IsEquation};
-ghost use Rattle.hol_logic.specs.Quantified.{IsPredicate, IsExpanded, all_contrary, some_contrary};
+ghost use Rattle.hol_logic.specs.Quantified.{IsExpanded, all_contrary, some_contrary};
 
 use crate::equality::{carry, sym, trans};
 use crate::fresh::fresh;

@@ -1,5 +1,5 @@
 //! Variables that nothing speaks of.
-ghost use Rattle.std.specs.Prelude.{◌≡◌, IfOk};
+ghost use Rattle.std.specs.Prelude.{IfOk};
 ghost use Rattle.hol_types.specs.TypeStore.{HasType, type_tree};
 ghost use Rattle.hol_terms.specs.Term.{FreeTm};
 ghost use Rattle.hol_terms.specs.declared.node.FreeKind.TheVariants.{Open};

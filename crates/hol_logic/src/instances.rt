@@ -1,9 +1,6 @@
 //! Instances of records.
-ghost use Rattle.std.specs.Prelude.{◌≡◌, ◌<◌, ℕ, length, slice_index_or, IfOk, OnOk, IfErr};
-ghost use Rattle.hol_terms.specs.Term.{Term, LamTm, ty_of};
+ghost use Rattle.std.specs.Prelude.{◌≡◌, ◌<◌, length, IfOk, OnOk, IfErr};
 ghost use Rattle.hol_terms.specs.Substitution.{subst_bound};
-ghost use Rattle.hol_terms.specs.TermStore.{term_tree};
-ghost use Rattle.hol_terms.specs.Constants.{for_all};
 ghost use Rattle.lcf_kernel.specs.RuleForms.{IsGeneral};
 ghost use Rattle.lcf_kernel.specs.KernelState.{HasThm, concl_of, hyps_of, all_hyps_of, bare_of, KeepsAll};
 ghost use Rattle.hol_match.specs.Instance.{instance_by};

@@ -1,5 +1,5 @@
 //! The instance of a term under given terms for its variables.
-ghost use Rattle.std.specs.Prelude.{◌≡◌, ◌+◌, ◌*◌, IfOk, OnOk};
+ghost use Rattle.std.specs.Prelude.{◌≡◌, IfOk, OnOk};
 ghost use Rattle.hol_terms.specs.Term.{Typed, ty_of};
 ghost use Rattle.hol_terms.specs.Substitution.{IsClosed};
 ghost use Rattle.hol_terms.specs.TermStore.{HasTerm, Keeps, term_tree};

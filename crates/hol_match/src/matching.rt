@@ -1,5 +1,5 @@
 //! Terms for the Schematic variables of a pattern, with which it is a given term.
-ghost use Rattle.std.specs.Prelude.{◌≡◌, ℕ, ◌↔◌, ◌<◌, ◌+◌, ◌*◌, IfOk, OnOk, IfSome, IsTrue, MatchOption, None};
+ghost use Rattle.std.specs.Prelude.{◌≡◌, ◌↔◌, ◌<◌, IfOk, OnOk, IfSome, IsTrue, MatchOption, None};
 ghost use Rattle.hol_types.specs.Ty.{Ty};
 ghost use Rattle.hol_types.specs.TypeStore.{HasName, HasType, type_tree};
 ghost use Rattle.hol_terms.specs.Term.{Term, AppTm, LamTm, NumTm, ty_of};

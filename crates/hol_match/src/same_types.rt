@@ -1,9 +1,9 @@
 //! Whether types of two stores are the same.
-ghost use Rattle.std.specs.Prelude.{◌≡◌, ℕ, List, ◌↔◌, ◌<◌, ◌+◌, ◌*◌, IfOk, OnOk, IfSome, IsTrue, None, length};
+ghost use Rattle.std.specs.Prelude.{◌≡◌, ℕ, List, ◌↔◌, ◌<◌, ◌*◌, IfOk, OnOk, IfSome, IsTrue, None, length};
 ghost use Rattle.std.specs.List.{AllByRecursion};
 ghost use Rattle.hol_types.specs.Ty.{Ty, Tys, BoolTy, IntTy, FunTy, ConsTy, VarTy};
 ghost use Rattle.hol_types.specs.TypeStore.{HasName, HasType, text_of, trees_at, type_tree};
-ghost use Rattle.hol_match.specs.Matching.{AllSame, FirstSame};
+ghost use Rattle.hol_match.specs.Matching.{AllSame};
 
 use hol_terms::Terms;
 use hol_types::{NameId, TypeId, TypeNode};

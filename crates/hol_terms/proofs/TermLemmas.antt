@@ -7,7 +7,7 @@ use Rattle.hol_types.specs.Ty.{Ty, FunTy}
 use Rattle.hol_types.specs.TypeStore as types
 use Rattle.hol_types.specs.declared.node.TypeNode.{TypeNode}
 use Rattle.hol_types.specs.declared.node.TypeNode.TheVariants.{Bool, Int, Var, Fun, Cons}
-use Rattle.hol_types.specs.TypeStore.{TypeStore, IsTypeStore, HasName, HasType, type_tree, text_of}
+use Rattle.hol_types.specs.TypeStore.{TypeStore, IsTypeStore, HasType, type_tree, text_of}
 use Rattle.hol_types.specs.KeepsTypes.{KeepsTypes}
 use Rattle.hol_types.proofs.KeepsLemmas.{keeps_types_refl, keeps_types_trans}
 use Rattle.hol_types.proofs.MarkLemmas.{back_part}

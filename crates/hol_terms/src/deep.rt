@@ -1,6 +1,6 @@
 //! The parts of deep terms. A walk that remembers what it did and goes through them first calls itself a few levels deep
 //! only.
-ghost use Rattle.std.specs.Prelude.{◌≡◌, IfOk, OnOk};
+ghost use Rattle.std.specs.Prelude.{IfOk, OnOk};
 ghost use Rattle.std.specs.List.{AllByRecursion};
 ghost use Rattle.hol_types.specs.Once.{IsAdded};
 ghost use Rattle.hol_types.specs.Deep.{IsTypePart};

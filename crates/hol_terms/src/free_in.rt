@@ -1,5 +1,5 @@
 //! Whether a free variable occurs in a term, each shared part once.
-ghost use Rattle.std.specs.Prelude.{◌≡◌, ◌↔◌, ◌+◌, ◌*◌, true, IsTrue, IfOk, OnOk};
+ghost use Rattle.std.specs.Prelude.{◌≡◌, ◌↔◌, ◌*◌, true, IsTrue, IfOk, OnOk};
 ghost use Rattle.hol_terms.specs.Formula.{In};
 ghost use Rattle.hol_terms.specs.TermStore.{term_tree, HasTerm};
 ghost use Rattle.hol_terms.specs.Substitution.{free_variables};

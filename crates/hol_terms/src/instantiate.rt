@@ -1,5 +1,5 @@
 //! Types for the type variables of a term, each shared part once.
-ghost use Rattle.std.specs.Prelude.{◌≡◌, ◌+◌, ◌*◌, IfOk, OnOk};
+ghost use Rattle.std.specs.Prelude.{◌≡◌, ◌*◌, IfOk, OnOk};
 ghost use Rattle.hol_types.specs.TypeStore.{HasType, type_tree};
 ghost use Rattle.hol_types.specs.TypeSubst.{HasSubst, subst_tree, instance_of};
 ghost use Rattle.hol_types.specs.Instance.{AllTypeInstances};

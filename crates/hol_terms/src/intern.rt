@@ -1,5 +1,5 @@
 //! Terms by number, each kept once.
-ghost use Rattle.std.specs.Prelude.{◌≡◌, slice_get, IfOk, OnOk, IfErr, Some};
+ghost use Rattle.std.specs.Prelude.{◌≡◌, IfOk, OnOk, IfErr, Some};
 ghost use Rattle.hol_terms.specs.Term.{Typed};
 ghost use Rattle.hol_terms.specs.TermStore.{IsTermStore, GrowsTo, Keeps, TermsApart, joined, term_tree, tree_of, HasTerm, HasParts};
 

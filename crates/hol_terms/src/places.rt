@@ -1,5 +1,5 @@
 //! The parts of deep terms, each with the number of binders around it.
-ghost use Rattle.std.specs.Prelude.{◌≡◌, ◌+◌, ◌<◌, ◌^◌, IfOk, OnOk};
+ghost use Rattle.std.specs.Prelude.{◌+◌, ◌<◌, ◌^◌, IfOk, OnOk};
 ghost use Rattle.std.specs.List.{AllByRecursion};
 ghost use Rattle.hol_types.specs.Once.{IsAdded};
 ghost use Rattle.hol_terms.specs.Term.{Term};

@@ -1,5 +1,5 @@
 //! A term for a free variable, each shared part once.
-ghost use Rattle.std.specs.Prelude.{◌≡◌, ◌+◌, ◌*◌, ◌<◌, IfOk, OnOk};
+ghost use Rattle.std.specs.Prelude.{◌≡◌, ◌*◌, ◌<◌, IfOk, OnOk};
 ghost use Rattle.hol_terms.specs.Term.{Typed, ty_of};
 ghost use Rattle.hol_terms.specs.TermStore.{Keeps, term_tree, HasTerm};
 ghost use Rattle.hol_terms.specs.Substitution.{subst_free, IsClosed};

@@ -5,7 +5,7 @@ ghost use Rattle.hol_types.specs.TypeStore as types;
 ghost use Rattle.hol_types.specs.Ty.{FunTy};
 ghost use Rattle.hol_terms.specs.Term.{Typed, ty_of, result_ty};
 ghost use Rattle.hol_terms.specs.Reach.{reach_of};
-ghost use Rattle.hol_terms.specs.TermStore.{IsTermStore, GrowsTo, Keeps, joined, term_tree, tree_of, HasTerm, HasParts, Applies};
+ghost use Rattle.hol_terms.specs.TermStore.{IsTermStore, GrowsTo, joined, term_tree, tree_of, HasTerm, HasParts, Applies};
 
 use crate::fits::bounds_fit;
 use crate::node::{Node, TermId};

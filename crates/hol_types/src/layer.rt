@@ -1,5 +1,5 @@
 //! Items of two tables, numbered through.
-ghost use Rattle.std.specs.Prelude.{◌≡◌, ℕ, ◌⊎◌, ◌^◌, ◌<◌, ◌++◌, ◌∷◌, [], length, slice_get, MatchOption, IfOk, OnOk, OnErr};
+ghost use Rattle.std.specs.Prelude.{◌≡◌, ◌<◌, ◌++◌, length, slice_get, MatchOption, IfOk, OnOk, OnErr};
 ghost use Rattle.hol_types.specs.Once.{Once, Absent, IsAdded};
 
 use crate::list::{Bytes, List};

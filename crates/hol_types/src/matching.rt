@@ -1,5 +1,5 @@
 //! Types for the type variables of a pattern that make it a type.
-ghost use Rattle.std.specs.Prelude.{◌≡◌, ℕ, ◌<◌, ◌+◌, ◌*◌, IfOk, IfSome, Some, None, true, false, length};
+ghost use Rattle.std.specs.Prelude.{◌≡◌, ◌<◌, ◌*◌, IfOk, IfSome, Some, None, true, false, length};
 ghost use Rattle.std.specs.List.{AllByRecursion};
 ghost use Rattle.hol_types.specs.Ty.{Ty, Tys, FunTy, ConsTy};
 ghost use Rattle.hol_types.specs.TypeStore.{IsTypeStore, HasName, HasType, arity_of, joined, text_of, type_tree, trees_at};

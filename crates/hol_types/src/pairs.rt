@@ -1,5 +1,5 @@
 //! The parts of deep patterns, each with the part of the type that it has to be.
-ghost use Rattle.std.specs.Prelude.{◌≡◌, ℕ, IfOk, OnOk};
+ghost use Rattle.std.specs.Prelude.{IfOk, OnOk};
 ghost use Rattle.std.specs.List.{AllByRecursion};
 ghost use Rattle.hol_types.specs.Once.{IsAdded};
 ghost use Rattle.hol_types.specs.Ty.{Ty};

@@ -1,5 +1,5 @@
 //! Items by number, each kept once.
-ghost use Rattle.std.specs.Prelude.{◌≡◌, ℕ, ◌^◌, ◌<◌, ◌≤◌, ◌++◌, [], ◌∷◌, length, take, slice_get, true, MatchOption, IfSome, IfOk, OnOk, OnErr};
+ghost use Rattle.std.specs.Prelude.{◌≡◌, ◌^◌, ◌<◌, ◌≤◌, ◌++◌, [], ◌∷◌, length, take, slice_get, true, MatchOption, IfSome, IfOk, OnOk, OnErr};
 ghost use Rattle.hol_types.specs.Once.{Once, Absent, IsAdded};
 
 use crate::list::{Bytes, List};

@@ -5,8 +5,8 @@ use Rattle.std.specs.List.Sorted.{IsStrictlySortedBy}
 use Rattle.hol_types.proofs.TypeLemmas.{eqb_sound, eqb_complete}
 use Rattle.hol_terms.specs.Term.{Term}
 use Rattle.hol_terms.specs.TermStore.{TermStore, HasTerm, TermsApart, term_tree}
-use Rattle.hol_terms.specs.Formula.{In, IsFormula, AllFormulas, SameMembers, without}
-use Rattle.hol_terms.proofs.SetLemmas.{in_append_left, in_append_right, in_append_either, in_map, in_map_from, in_without, in_without_or, without_differs, formulas_both, same_refl, same_trans}
+use Rattle.hol_terms.specs.Formula.{In, AllFormulas, SameMembers, without}
+use Rattle.hol_terms.proofs.SetLemmas.{in_append_left, in_append_right, in_append_either, in_without, in_without_or, without_differs, formulas_both, same_refl, same_trans}
 use Rattle.lcf_kernel.specs.Hyps.{Rises, SameIds, stands}
 use Rattle.lcf_kernel.specs.KernelState.{KernelState, HasThm, thm_at, hyps_of, context_of, AreHyps, IsKernel, IsOutside, GivesHyps}
 use Rattle.hol_formulas.specs.Formulas.{trees, HasFormulas}

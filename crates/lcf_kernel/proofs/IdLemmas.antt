@@ -1,5 +1,5 @@
 -- Lists of numbers, read by what stands in them.
-use Rattle.std.proofs.Common.{◌≡◌, ◌++◌, ◌∙◌, ◌∷◌, [], refl, sym, ap, ◌⊎◌, Contains, ℕ, List, inl, inr, zero, suc, ◌<◌, arith, filter, cond, ◌||◌, true, false, Bool as Truth, length, get_or, take, ◌+◌, ◌≤◌, Result, Ok, Err}
+use Rattle.std.proofs.Common.{◌≡◌, ◌++◌, ◌∙◌, ◌∷◌, [], refl, sym, ap, ◌⊎◌, ℕ, List, inl, inr, ◌<◌, arith, filter, cond, ◌||◌, true, false, Bool as Truth, length, get_or, take, ◌+◌, ◌≤◌, Result, Ok, Err}
 use Rattle.std.proofs.Math.Dec.{eqb}
 use Rattle.std.proofs.lemmas.Bool.Decides.{nat_tests}
 use Rattle.std.specs.List.{dedup}

@@ -6,14 +6,11 @@ use Rattle.std.proofs.lemmas.List.Elements.{filter-append}
 use Rattle.std.proofs.Math.ListN.{get_or-append}
 use Rattle.std.proofs.Math.Seq.{get_or-append_seam}
 use Rattle.hol_types.proofs.Places.{slice_get-push}
-use Rattle.hol_terms.specs.Term.{Term}
 use Rattle.hol_terms.specs.TermStore.{TermStore, term_tree, Keeps}
 use Rattle.hol_terms.specs.declared.tables.Mark.{Mark}
-use Rattle.hol_types.specs.Ty.{Ty}
-use Rattle.hol_formulas.specs.Constants.{IsAt, IsType, IsName, AreNames, AreConstants}
+use Rattle.hol_formulas.specs.Constants.{AreConstants}
 use Rattle.lcf_kernel.specs.Hyps.{Rises, SameIds}
 use Rattle.hol_formulas.specs.declared.formula.Constants.{Constants}
-use Rattle.hol_formulas.specs.declared.formula.Names.{Names}
 use Rattle.lcf_kernel.specs.declared.kernel.Records.{Records}
 use Rattle.lcf_kernel.specs.declared.thm.Thm.{Thm}
 use Rattle.hol_terms.proofs.KeepsLemmas.{keeps_refl, keeps_trans}
@@ -23,7 +20,7 @@ use Rattle.hol_formulas.specs.Found.{AreVariables}
 use Rattle.hol_formulas.specs.FoundTypes.{type_variables_in, AreTypeVariables}
 use Rattle.hol_formulas.proofs.FoundLemmas.{variables_keep}
 use Rattle.hol_formulas.proofs.UnchangedTypes.{type_variables_keep}
-use Rattle.hol_formulas.specs.Formulas.{trees, HasFormula, HasFormulas, IsContext}
+use Rattle.hol_formulas.specs.Formulas.{trees, HasFormulas, IsContext}
 use Rattle.hol_formulas.proofs.GrowthLemmas.{trees_keep, constants_keep, formula_keeps, formulas_keep, context_keeps}
 
 -- ---- a store that goes on

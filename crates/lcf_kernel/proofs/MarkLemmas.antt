@@ -1,7 +1,7 @@
 -- A kernel that goes on, and what it held at a mark.
-use Rattle.std.proofs.Common.{◌≡◌, ◌∙◌, ◌<◌, ◌≤◌, ◌+◌, refl, ap, ap₂, sym, subst, ℕ, zero, suc, List, length, take, get_or, arith}
+use Rattle.std.proofs.Common.{◌≡◌, ◌∙◌, ◌<◌, ◌≤◌, ◌+◌, refl, ap₂, sym, subst, ℕ, zero, suc, List, length, take, get_or, arith}
 use Rattle.std.proofs.lemmas.List.{take_all, take_more_same}
-use Rattle.hol_terms.specs.TermStore.{TermStore, Keeps}
+use Rattle.hol_terms.specs.TermStore.{TermStore}
 use Rattle.hol_terms.specs.TermStore as terms
 use Rattle.hol_terms.proofs.KeepsLemmas.{may_reset_kept as store_may_reset}
 use Rattle.lcf_kernel.specs.declared.mark.KernelMark.{KernelMark}
@@ -10,9 +10,8 @@ use Rattle.hol_formulas.specs.Constants.{AreConstants}
 use Rattle.hol_formulas.specs.Formulas.{trees}
 use Rattle.hol_formulas.specs.Found.{AreVariables}
 use Rattle.hol_formulas.specs.FoundTypes.{type_variables_in, AreTypeVariables}
-use Rattle.lcf_kernel.specs.Hyps.{Rises, SameIds}
-use Rattle.lcf_kernel.specs.KernelState.{KernelState, IsKernel, IsInside, HasThm, thm_at, context_of, KeepsRecords}
-use Rattle.lcf_kernel.specs.Marks.{MayReset, cut, mark_of}
+use Rattle.lcf_kernel.specs.KernelState.{KernelState, IsKernel, IsInside, context_of, KeepsRecords}
+use Rattle.lcf_kernel.specs.Marks.{MayReset, cut}
 
 -- two lists that are equal below a number are equal so far
 take_same : (xs ys : List Thm) (d : Thm) (n : ℕ) → n ≤ length xs → n ≤ length ys → ((i : ℕ) → i < n → get_or xs i d ≡ get_or ys i d) → take n xs ≡ take n ys

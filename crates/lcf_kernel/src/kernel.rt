@@ -1,8 +1,5 @@
 //! The kernel: each record follows from the facts under the context and its hypotheses.
-ghost use Rattle.std.specs.Prelude.{◌≡◌, ◌↔◌, ◌++◌, [], ◌∷◌, length, IfOk, IfSome, IfNone, OnOk, OnErr, IsTrue, Bool, false};
-ghost use Rattle.hol_types.specs.Ty.{BoolTy};
-ghost use Rattle.hol_terms.specs.Term.{Term, Typed, ty_of};
-ghost use Rattle.hol_terms.specs.Substitution.{IsClosed};
+ghost use Rattle.std.specs.Prelude.{◌≡◌, ◌++◌, [], ◌∷◌, length, IfOk, OnOk, OnErr, IsTrue, false};
 ghost use Rattle.hol_terms.specs.TermStore.{HasTerm, Keeps, TermsApart, term_tree};
 ghost use Rattle.hol_terms.specs.Formula.{IsFormula};
 ghost use Rattle.hol_terms.specs.Derivable.{Derivable};

@@ -6,7 +6,7 @@ ghost use Rattle.hol_types.specs.TypeSubst.{HasSubst, subst_tree};
 ghost use Rattle.hol_terms.specs.Substitution.{IsClosed, subst_types};
 ghost use Rattle.hol_terms.specs.TermStore.{HasTerm, TermsApart, term_tree};
 ghost use Rattle.hol_terms.specs.Formula.{IsFormula, without};
-ghost use Rattle.hol_terms.specs.Constants.{implication, conjunction, disjunction, negation, equation, false_tm};
+ghost use Rattle.hol_terms.specs.Constants.{implication, conjunction, disjunction, negation, false_tm};
 ghost use Rattle.hol_formulas.specs.Formulas.{trees, HasFormula, HasFormulas};
 ghost use Rattle.lcf_kernel.specs.KernelState.{HasThm, concl_of, hyps_of, bare_of, context_of, AreHyps, IsKernel, IsOutside, GivesHyps, KeepsAll};
 

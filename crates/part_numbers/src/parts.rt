@@ -1,7 +1,7 @@
 //! The distinct parts of terms, by number.
 ghost use Rattle.std.specs.Prelude.{◌≡◌, ◌<◌, IfOk, OnOk, [], length, slice_get, Some};
 ghost use Rattle.std.specs.List.{AllByRecursion};
-ghost use Rattle.hol_terms.specs.TermStore.{HasTerm, TermsApart, term_tree};
+ghost use Rattle.hol_terms.specs.TermStore.{HasTerm, term_tree};
 ghost use Rattle.part_numbers.specs.Parts.{parts_of, with_parts_of};
 ghost use Rattle.part_numbers.specs.Walk.{AreCovered, terms_at};
 

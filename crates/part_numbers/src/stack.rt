@@ -1,7 +1,6 @@
 //! A stack of terms that a walk still has to go through, the first one on top.
-ghost use Rattle.std.specs.Prelude.{◌≡◌, ◌+◌, OnOk};
-ghost use Rattle.hol_terms.specs.Term.{Term};
-ghost use Rattle.hol_terms.specs.TermStore.{HasTerm, PartsBelow, term_tree, tree_of};
+ghost use Rattle.std.specs.Prelude.{◌+◌, OnOk};
+ghost use Rattle.hol_terms.specs.TermStore.{HasTerm, term_tree};
 ghost use Rattle.part_numbers.specs.Parts.{met_at_head, met_beneath};
 ghost use Rattle.part_numbers.specs.Walk.{Pushes};
 

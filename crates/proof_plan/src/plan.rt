@@ -1,7 +1,6 @@
 //! A proof as numbered rule applications.
-ghost use Rattle.std.specs.Prelude.{◌≡◌, ◌<◌, ◌-◌, length, slice_get, Some, All};
-ghost use Rattle.proof_plan.specs.Rules.{TakesPremises};
-ghost use Rattle.proof_plan.specs.PlanValue.{PlanValue, node_at, rule_of, premises_of, claim_of, tree_in};
+ghost use Rattle.std.specs.Prelude.{◌≡◌, ◌<◌, ◌-◌, length, All};
+ghost use Rattle.proof_plan.specs.PlanValue.{PlanValue, node_at, claim_of};
 ghost use Rattle.proof_plan.specs.Claims.{Facts, Context, Hyps};
 ghost use Rattle.hol_terms.specs.Formula.{AllFormulas};
 ghost use Rattle.proof_plan.specs.IsPlan.{IsPlan, IsNode, IsFormulaIn, IsAssertionIn, IsDefinitionIn};
@@ -11,7 +10,7 @@ ghost use Rattle.hol_terms.specs.Constants.{false_tm};
 
 use crate::node::PlanNode;
 use crate::step::Task;
-use hol_terms::{Def, Frozen, Parts, TermId};
+use hol_terms::{Def, Frozen, Parts};
 use hol_types::List;
 use std::marker::Model;
 

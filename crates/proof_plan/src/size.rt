@@ -1,5 +1,5 @@
 //! How large a rule application may be.
-ghost use Rattle.std.specs.Prelude.{◌≡◌, ◌∷◌, IfOk, MatchOption, map, length};
+ghost use Rattle.std.specs.Prelude.{◌≡◌, ◌∷◌, IfOk, MatchOption};
 ghost use Rattle.std.specs.List.{AllByRecursion};
 ghost use Rattle.hol_terms.specs.TermStore.{HasTerm, Keeps};
 ghost use Rattle.part_numbers.specs.Walk.{terms_at};

@@ -1,4 +1,4 @@
-ghost use Rattle.std.specs.Prelude.{◌≡◌, ◌≢◌, ℕ, List, [], ◌+◌, ◌<◌, ◌≤◌, ◌^◌, ◌⊎◌, true, false, length, reverse, MatchOption, Some, None, Ok, Err, IfOk, IfErr, OnOk};
+ghost use Rattle.std.specs.Prelude.{◌≡◌, ◌≢◌, List, [], ◌+◌, ◌<◌, ◌≤◌, ◌^◌, ◌⊎◌, true, length, reverse, MatchOption, Some, None, Ok, Err, IfOk, IfErr, OnOk};
 ghost use Rattle.sexp.specs.Tree.{AtomTree, no_trees, more_trees, place, text_of};
 ghost use Rattle.sexp.specs.Forest.{kept_at, tree_at, trees_at, after_of, rec_at, kind_of, Tells, HasTree, IsRun};
 ghost use Rattle.sexp.specs.Reading.{count_fed, is_whole, KeepsFed};

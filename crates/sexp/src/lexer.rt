@@ -1,7 +1,6 @@
-ghost use Rattle.std.specs.Prelude.{◌≡◌, ◌<◌, ◌≤◌, ◌+◌, ◌-◌, ◌^◌, Bool, true, false, List, ℕ, [], ◌++◌, length, drop, OnOk, OnErr, Option, Some, None};
-ghost use Rattle.sexp.specs.Text.{words_from};
+ghost use Rattle.std.specs.Prelude.{◌≡◌, ◌<◌, ◌≤◌, ◌+◌, ◌-◌, ◌^◌, true, false, [], ◌++◌, length, drop, OnOk, OnErr, Option, Some, None};
 ghost use Rattle.sexp.specs.declared.lexis.Mode.TheVariants.{Between};
-ghost use Rattle.sexp.specs.Lexing.{Lexing, words_of, fed_of, AreAlike, Sees};
+ghost use Rattle.sexp.specs.Lexing.{Lexing, fed_of, AreAlike, Sees};
 
 use crate::lexis::{Mode, Word};
 use crate::look::{Peek, look_at};

@@ -1,5 +1,5 @@
 //! Files in memory.
-ghost use Rattle.std.specs.Prelude.{◌≡◌, ℕ, ◌+◌, ◌-◌, ◌<◌, ◌≤◌, ◌^◌, ◌↔◌, List, Option, length, take, drop, min, IfOk, IsOk, IsSome, IsNone, IfSome, OnOk, OnErr, MatchOption, Some, None};
+ghost use Rattle.std.specs.Prelude.{◌≡◌, ℕ, ◌+◌, ◌-◌, ◌<◌, ◌≤◌, ◌↔◌, List, Option, length, take, drop, min, IfOk, IsOk, IsSome, IfSome, OnOk, OnErr, MatchOption, Some, None};
 ghost use Rattle.smt_io.specs.Faults.{Rose, counted};
 ghost use Rattle.smt_io.specs.MemFiles.{bytes_of, IsClearAt, StopsBefore, IsWhole};
 

@@ -1,5 +1,5 @@
 //! A sink in memory.
-ghost use Rattle.std.specs.Prelude.{◌≡◌, ℕ, ◌+◌, ◌-◌, ◌<◌, ◌≤◌, ◌^◌, ◌↔◌, List, Option, [], ◌++◌, length, take, min, IfOk, IsOk, OnOk, OnErr, Some};
+ghost use Rattle.std.specs.Prelude.{◌≡◌, ◌+◌, ◌-◌, ◌<◌, ◌≤◌, ◌↔◌, List, [], ◌++◌, length, take, min, IfOk, IsOk, OnErr, Some};
 ghost use Rattle.smt_io.specs.Faults.{Rose, counted};
 ghost use Rattle.smt_io.specs.MemSink.{IsTaken, taken};
 ghost use Rattle.std.specs.Prelude.{vec_len, vec_capacity};

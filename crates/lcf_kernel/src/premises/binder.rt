@@ -1,5 +1,5 @@
 //! What rules of quantifiers ask and make.
-ghost use Rattle.std.specs.Prelude.{◌≡◌, ◌↔◌, true, false, IsTrue, IfOk, IfSome, IfNone};
+ghost use Rattle.std.specs.Prelude.{◌≡◌, true, false, IfOk, IfSome, IfNone};
 ghost use Rattle.hol_types.specs.Ty.{Ty, BoolTy, FunTy};
 ghost use Rattle.hol_types.specs.TypeStore.{HasType, type_tree};
 ghost use Rattle.hol_terms.specs.Term.{Term, AppTm, LamTm, Typed, result_ty, ty_of};

@@ -2,7 +2,7 @@
 ghost use Rattle.std.specs.Prelude.{◌≡◌, ◌↔◌, IsTrue, IfOk, IfSome, IfNone};
 ghost use Rattle.hol_types.specs.Ty.{Ty, BoolTy};
 ghost use Rattle.hol_types.specs.TypeStore.{type_tree};
-ghost use Rattle.hol_terms.specs.Term.{Term, AppTm, LamTm, BoundsFit, Typed, ty_of};
+ghost use Rattle.hol_terms.specs.Term.{Term, AppTm, LamTm, BoundsFit, ty_of};
 ghost use Rattle.hol_terms.specs.Substitution.{IsClosed, subst_bound};
 ghost use Rattle.hol_terms.specs.TermStore.{HasTerm, TermsApart, term_tree};
 ghost use Rattle.hol_terms.specs.Formula.{IsTerm};

@@ -4,7 +4,7 @@ ghost use Rattle.hol_types.specs.Ty.{BoolTy, FunTy};
 ghost use Rattle.hol_terms.specs.Term.{Term, ty_of};
 ghost use Rattle.hol_terms.specs.Substitution.{IsClosed, subst_bound};
 ghost use Rattle.hol_terms.specs.TermStore.{HasTerm, term_tree};
-ghost use Rattle.hol_terms.specs.Constants.{equation, conditional, negation};
+ghost use Rattle.hol_terms.specs.Constants.{equation, conditional};
 ghost use Rattle.hol_terms.specs.Formula.{SameMembers, without};
 ghost use Rattle.lcf_kernel.specs.KernelState.{HasThm, concl_of, hyps_of, all_hyps_of, bare_of, KeepsAll};
 ghost use Rattle.lcf_kernel.specs.RuleForms.{Agree, IsRedex, IsSubstitution, IsUnselected};

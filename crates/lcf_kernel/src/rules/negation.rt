@@ -1,7 +1,5 @@
 //! Rules of negation, truth and falsity.
 ghost use Rattle.std.specs.Prelude.{◌≡◌, ◌++◌, ◌&&◌, [], true, IfOk, OnOk, IfErr};
-ghost use Rattle.hol_types.specs.Ty.{BoolTy};
-ghost use Rattle.hol_terms.specs.Term.{Term, ty_of};
 ghost use Rattle.hol_terms.specs.Substitution.{IsClosed};
 ghost use Rattle.hol_terms.specs.TermStore.{HasTerm, term_tree};
 ghost use Rattle.hol_terms.specs.Constants.{negation, true_tm, false_tm};

@@ -1,6 +1,6 @@
 //! Rules of quantifiers and choice.
 ghost use Rattle.std.specs.Prelude.{◌≡◌, ◌++◌, ◌&&◌, IfOk, OnOk, IfErr};
-ghost use Rattle.hol_terms.specs.Term.{Term, LamTm, ty_of};
+ghost use Rattle.hol_terms.specs.Term.{LamTm, ty_of};
 ghost use Rattle.hol_terms.specs.Substitution.{IsClosed, subst_bound};
 ghost use Rattle.hol_terms.specs.TermStore.{HasTerm, term_tree};
 ghost use Rattle.hol_terms.specs.Constants.{for_all, chosen};

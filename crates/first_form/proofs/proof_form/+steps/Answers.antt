@@ -8,9 +8,7 @@ use Rattle.sexp.specs.Tree.{place, no_trees}
 use Rattle.sexp.specs.Forest.{tree_at, trees_at}
 use Rattle.first_form.specs.Read.{Fails}
 use Rattle.first_form.specs.Trees.{is_empty, text_of}
-use Rattle.first_form.specs.Formulas.{formula_of}
 use Rattle.goal_text.specs.Scope.{terms_at}
-use Rattle.first_form.specs.Lexicon.{names_of}
 use Rattle.proof_plan.specs.Rules.{TakesPremises}
 use Rattle.first_form.specs.ProofForm.{proof_of, rule_of, fits}
 use Rattle.first_form.specs.Source.{Source}

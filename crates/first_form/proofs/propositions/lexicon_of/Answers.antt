@@ -1,11 +1,9 @@
-use Rattle.std.proofs.Common.{◌≡◌, [], drop, subst, sym}
-use Rattle.std.specs.Prelude.{slice_index_or}
+use Rattle.std.proofs.Common.{subst, sym}
 use Rattle.std.proofs.lemmas.List.{drop_all}
 use Rattle.hol_terms.proofs.KeepsLemmas.{keeps_trans}
 use Rattle.goal_text.specs.declared.problem.Declared.{Declared}
-use Rattle.goal_text.specs.ItemsIn.{HasDeclared, declared_in}
+use Rattle.goal_text.specs.ItemsIn.{HasDeclared}
 use Rattle.first_form.specs.Lexicon.{names_of}
-use Rattle.first_form.specs.Source.{with_propositions}
 use Rattle.first_form.proofs.PropositionLemmas.{declared_at, declared_on, propositions_done, propositions_step}
 use Rattle.first_form.proofs.propositions.lexicon_of.Goals as goal
 

@@ -2,7 +2,7 @@ use Rattle.std.proofs.Common.{◌≡◌, ◌∙◌, [], refl, sym, ap, subst, tr
 use Rattle.hol_types.specs.Ty.{BoolTy}
 use Rattle.hol_types.specs.TypeStore.{type_tree}
 use Rattle.hol_terms.specs.TermStore.{term_tree}
-use Rattle.hol_terms.specs.Constants.{negation, conjunction, disjunction, implication, for_all, exists, equation}
+use Rattle.hol_terms.specs.Constants.{negation, conjunction, disjunction, for_all, exists, equation}
 use Rattle.hol_logic.specs.States.{States}
 use Rattle.hol_logic.specs.Duals.{contrary, of_and, of_or, of_imp, of_all, of_exists}
 use Rattle.hol_logic.proofs.duals.de_morgan.Goals as goal

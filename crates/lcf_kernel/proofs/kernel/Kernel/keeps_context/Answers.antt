@@ -1,4 +1,4 @@
-use Rattle.std.proofs.Common.{◌≡◌, ◌∙◌, List, ℕ, subst}
+use Rattle.std.proofs.Common.{◌≡◌, ◌∙◌, subst}
 use Rattle.hol_types.specs.TypeSubst.{subst_tree}
 use Rattle.hol_terms.specs.Formula.{In}
 use Rattle.hol_formulas.specs.FoundTypes.{type_variables_in, AreTypeVariables}

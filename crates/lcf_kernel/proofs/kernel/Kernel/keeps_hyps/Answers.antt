@@ -1,7 +1,5 @@
-use Rattle.std.proofs.Common.{◌≡◌, ◌∙◌, ap, ap₂, sym, subst, true, false, arith, tests, List}
-use Rattle.hol_types.specs.TypeSubst.{TypeSubst, subst_tree}
-use Rattle.hol_terms.specs.Term.{Term}
-use Rattle.hol_terms.specs.Formula.{ChangesNone}
+use Rattle.std.proofs.Common.{◌≡◌, subst, true, false, arith, tests}
+use Rattle.hol_types.specs.TypeSubst.{subst_tree}
 use Rattle.hol_terms.proofs.KeepsLemmas.{subst_kept, subst_same}
 use Rattle.hol_formulas.proofs.UnchangedTypes.{changes_none_both, changes_none_left, changes_none_right}
 use Rattle.lcf_kernel.specs.KernelState.{context_of, hyps_of}
