@@ -17,12 +17,6 @@ use Rattle.hol_formulas.proofs.TreesLemmas.{in_trees, from_trees}
 abbrev pub Stays : TermStore → List (ℕ × ℕ) → ℕ → Type 0
 Stays s ps t = subst_types (subst_tree s.types ps) (term_tree s t) ≡ term_tree s t
 
--- what was made of a term is that term exactly where it stays
-pub stays_is : (s u : TermStore) → Keeps s u → TermsApart u → (ps : List (ℕ × ℕ)) (t r : ℕ) → HasTerm s t → HasTerm u r → term_tree u r ≡ subst_types (subst_tree s.types ps) (term_tree s t)
-    → (r ≡ t → Stays s ps t) × (Stays s ps t → r ≡ t)
-stays_is s u keeps apart ps t r there made tree =
-    (λ e. sym tree ∙ ap (λ w. term_tree u w) e ∙ keeps.trees t there, λ same. apart r t made (keeps.terms t there) (tree ∙ same ∙ sym (keeps.trees t there)))
-
 -- in a store that went on
 module _ {s u : TermStore} (keeps : Keeps s u) (ps : List (ℕ × ℕ)) (all : HasSubst s.types ps) (t : ℕ) (there : HasTerm s t) where
   both : subst_types (subst_tree u.types ps) (term_tree u t) ≡ subst_types (subst_tree s.types ps) (term_tree s t)

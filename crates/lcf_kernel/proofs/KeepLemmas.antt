@@ -22,6 +22,8 @@ use Rattle.hol_formulas.proofs.FoundLemmas.{variables_keep}
 use Rattle.hol_formulas.proofs.UnchangedTypes.{type_variables_keep}
 use Rattle.hol_formulas.specs.Formulas.{trees, HasFormulas, IsContext}
 use Rattle.hol_formulas.proofs.GrowthLemmas.{trees_keep, constants_keep, formula_keeps, formulas_keep, context_keeps}
+use Rattle.lcf_kernel.specs.Known.{Known, AllKnown}
+use Rattle.lcf_kernel.proofs.KnownLemmas.{known_keep, nothing_known}
 
 -- ---- a store that goes on
 
@@ -44,8 +46,8 @@ module _ (k : KernelState) (u : TermStore) (base : Mark) (keeps : Keeps k.store 
     thms = λ t r h. thm_keeps k.store u keeps k.facts k.context r is.facts is.context.formulas (is.thms t r h);
   }
 
-  pub inside_keeps : (c : Constants) (ordered : List ℕ) → IsInside k c ordered → IsInside (record k { store = u; base = base }) c ordered
-  inside_keeps c ordered is = record {
+  pub inside_keeps : (c : Constants) (ordered : List ℕ) (known : Known) → IsInside k c ordered known → IsInside (record k { store = u; base = base }) c ordered known
+  inside_keeps c ordered known is = record {
     kernel = kernel_keeps is.kernel;
     constants = constants_keep k.store u keeps c is.constants;
     rises = is.rises;
@@ -53,13 +55,30 @@ module _ (k : KernelState) (u : TermStore) (base : Mark) (keeps : Keeps k.store 
     variables = variables_keep k.store u keeps k.variables k.context is.kernel.context.formulas is.variables;
     variables_rise = is.variables_rise;
     type_variables = type_variables_keep k.store u keeps k.type_variables k.context is.kernel.context.formulas is.type_variables;
+    knows = known_keep keeps is.knows;
   }
+
+-- and what is known of formulas may be other than it was
+pub knows_more : {k : KernelState} {c : Constants} {ordered : List ℕ} {old new : Known} → IsInside k c ordered old → AllKnown k.store new → IsInside k c ordered new
+knows_more is knows = record { kernel = is.kernel; constants = is.constants; rises = is.rises; same = is.same; variables = is.variables; variables_rise = is.variables_rise; type_variables = is.type_variables; knows = knows }
+
+-- a kernel that is the same at first
+pub keeps_all_from : {a b c : KernelState} → b ≡ a → KeepsAll b c → KeepsAll a c
+keeps_all_from {a} {b} {c} same keeps = subst (λ (k : KernelState). KeepsAll k c) same keeps
+
+-- and one that is the same at last
+pub keeps_all_to : {a b c : KernelState} → c ≡ b → KeepsAll a b → KeepsAll a c
+keeps_all_to {a} {b} {c} same keeps = subst (λ (k : KernelState). KeepsAll a k) (sym same) keeps
 
 -- ---- records
 
 -- what is true of the record of a number
 pub thm_is : (k : KernelState) → IsKernel k → (t : ℕ) → HasThm k t → IsThm k.store k.facts k.context (thm_at k t)
 thm_is k is t h = is.thms t (thm_at k t) (slice_get-get_or k.thms t _ h)
+
+-- the hypotheses of what stands at a number
+pub own_hyps : (k : KernelState) → IsKernel k → (t : ℕ) (r : Thm) → HasThm k t → r ≡ get_or k.thms t r → HasFormulas k.store r.hyps
+own_hyps k is t r h e = (is.thms t r (slice_get-get_or k.thms t r h ∙ ap (λ (q : Thm). Some q) (sym e))).hyps.formulas
 
 -- a kernel whose terms alone have changed
 pub keeps_all_terms : (old new : KernelState) → IsKernel old → Keeps old.store new.store → new.base ≡ old.base → new.constants ≡ old.constants → new.facts ≡ old.facts → new.context ≡ old.context → new.variables ≡ old.variables → new.type_variables ≡ old.type_variables → new.thms ≡ old.thms → KeepsAll old new
@@ -120,8 +139,8 @@ module _ (k : KernelState) (r : Thm) where
   pub kernel_with : IsKernel k → IsThm k.store k.facts k.context r → IsKernel (with_thm k r)
   kernel_with is thm = record { facts = is.facts; context = is.context; thms = λ t q h. each is thm t q (slice_get-push k.thms r t q h) }
 
-  pub inside_with : (c : Constants) (ordered : List ℕ) → IsInside k c ordered → IsThm k.store k.facts k.context r → IsInside (with_thm k r) c ordered
-  inside_with c ordered is thm = record { kernel = kernel_with is.kernel thm; constants = is.constants; rises = is.rises; same = is.same; variables = is.variables; variables_rise = is.variables_rise; type_variables = is.type_variables }
+  pub inside_with : (c : Constants) (ordered : List ℕ) (known : Known) → IsInside k c ordered known → IsThm k.store k.facts k.context r → IsInside (with_thm k r) c ordered known
+  inside_with c ordered known is thm = record { kernel = kernel_with is.kernel thm; constants = is.constants; rises = is.rises; same = is.same; variables = is.variables; variables_rise = is.variables_rise; type_variables = is.type_variables; knows = is.knows }
 
   kept_at : (t : ℕ) → HasThm k t → thm_at (with_thm k r) t ≡ thm_at k t
   kept_at t h = get_or-append k.thms (r ∷ []) _ t h
@@ -157,9 +176,9 @@ module _ (k : KernelState) (r : Thm) where
 
 -- ---- the first kernel
 
-pub inside_new : (base u : TermStore) → Keeps base u → (m : Mark) (facts context ordered vars types : List ℕ) (c : Constants) → HasFormulas base facts → IsContext base context → AreConstants u c → Rises ordered → SameIds ordered context → Rises vars → AreVariables base vars (trees base context) → AreTypeVariables base.types types (type_variables_in (trees base context))
-    → IsInside (record { store = u; base = m; constants = c; facts = facts; context = context; variables = vars; type_variables = types; thms = [] }) c ordered
-inside_new base u keeps m facts context ordered vars types c fs cs are rises same vars_rise vars_are types_are = record {
+pub inside_new : (base u : TermStore) → Keeps base u → (m : Mark) (facts context ordered vars types : List ℕ) (c : Constants) (known : Known) → known.entries ≡ [] → HasFormulas base facts → IsContext base context → AreConstants u c → Rises ordered → SameIds ordered context → Rises vars → AreVariables base vars (trees base context) → AreTypeVariables base.types types (type_variables_in (trees base context))
+    → IsInside (record { store = u; base = m; constants = c; facts = facts; context = context; variables = vars; type_variables = types; thms = [] }) c ordered known
+inside_new base u keeps m facts context ordered vars types c known none fs cs are rises same vars_rise vars_are types_are = record {
   kernel = record {
     facts = formulas_keep base u keeps facts fs;
     context = context_keeps base u keeps context cs;
@@ -171,6 +190,7 @@ inside_new base u keeps m facts context ordered vars types c fs cs are rises sam
   variables = variables_keep base u keeps vars context cs.formulas vars_are;
   variables_rise = vars_rise;
   type_variables = type_variables_keep base u keeps types context cs.formulas types_are;
+  knows = nothing_known u known none;
 }
 
 -- a kernel whose terms alone have changed, as the calls of the trait say it

@@ -1,5 +1,6 @@
 pub mod IdLemmas
 pub mod MergeLemmas
+pub mod KnownLemmas
 pub mod KeepLemmas
 pub mod KeptLemmas
 pub mod HypLemmas

@@ -1,5 +1,5 @@
 -- A kernel that goes on, and what it held at a mark.
-use Rattle.std.proofs.Common.{◌≡◌, ◌∙◌, ◌<◌, ◌≤◌, ◌+◌, refl, ap₂, sym, subst, ℕ, zero, suc, List, length, take, get_or, arith}
+use Rattle.std.proofs.Common.{◌≡◌, ◌∙◌, ◌<◌, ◌≤◌, ◌+◌, [], refl, ap₂, sym, subst, ℕ, zero, suc, List, length, take, get_or, arith}
 use Rattle.std.proofs.lemmas.List.{take_all, take_more_same}
 use Rattle.hol_terms.specs.TermStore.{TermStore}
 use Rattle.hol_terms.specs.TermStore as terms
@@ -11,7 +11,9 @@ use Rattle.hol_formulas.specs.Formulas.{trees}
 use Rattle.hol_formulas.specs.Found.{AreVariables}
 use Rattle.hol_formulas.specs.FoundTypes.{type_variables_in, AreTypeVariables}
 use Rattle.lcf_kernel.specs.KernelState.{KernelState, IsKernel, IsInside, context_of, KeepsRecords}
+use Rattle.lcf_kernel.specs.Known.{Known}
 use Rattle.lcf_kernel.specs.Marks.{MayReset, cut}
+use Rattle.lcf_kernel.proofs.KnownLemmas.{nothing_known}
 
 -- two lists that are equal below a number are equal so far
 take_same : (xs ys : List Thm) (d : Thm) (n : ℕ) → n ≤ length xs → n ≤ length ys → ((i : ℕ) → i < n → get_or xs i d ≡ get_or ys i d) → take n xs ≡ take n ys
@@ -71,5 +73,5 @@ may_reset_now k is are vars types m store whole thms =
     (same, record { store = store; thms = omega arith; constants = rw whole are; variables = rw whole vars; type_variables = subst (λ (s : TermStore). AreTypeVariables s.types k.type_variables (type_variables_in (trees s k.context))) (sym whole) types; kernel = subst (λ (j : KernelState). IsKernel j) (sym same) is })
 
 -- the kernel that was, inside
-pub inside_cut : (k : KernelState) (ordered : List ℕ) (m : KernelMark) → IsInside k k.constants ordered → MayReset m k → IsInside (cut m k) k.constants ordered
-inside_cut k ordered m is may = record { kernel = may.kernel; constants = may.constants; rises = is.rises; same = is.same; variables = may.variables; variables_rise = is.variables_rise; type_variables = may.type_variables }
+pub inside_cut : (k : KernelState) (ordered : List ℕ) (known none : Known) (m : KernelMark) → IsInside k k.constants ordered known → none.entries ≡ [] → MayReset m k → IsInside (cut m k) k.constants ordered none
+inside_cut k ordered known none m is empty may = record { kernel = may.kernel; constants = may.constants; rises = is.rises; same = is.same; variables = may.variables; variables_rise = is.variables_rise; type_variables = may.type_variables; knows = nothing_known (terms.cut m.store k.store) none empty }

@@ -8,6 +8,7 @@ use Rattle.hol_terms.specs.TermStore.{TermStore, term_tree, Keeps}
 use Rattle.hol_terms.specs.Formula.{In, AllFormulas, SameMembers}
 use Rattle.hol_terms.specs.Derivable.{Derivable}
 use Rattle.lcf_kernel.specs.Hyps.{Rises, SameIds}
+use Rattle.lcf_kernel.specs.Known.{Known, AllKnown}
 use Rattle.hol_formulas.specs.Constants.{AreConstants}
 use Rattle.hol_formulas.specs.Found.{AreVariables}
 use Rattle.hol_formulas.specs.FoundTypes.{type_variables_in, AreTypeVariables}
@@ -122,8 +123,9 @@ pub record IsKernel (k : KernelState) : Type 0 where
   pub context : IsContext k.store k.context
   pub thms : (t : ℕ) (r : Thm) → slice_get k.thms t ≡ Some r → IsThm k.store k.facts k.context r
 
--- a kernel with the numbers of its constants, its context in rising order, and the context's free variables and type variables too
-pub record IsInside (k : KernelState) (numbers : Constants) (ordered : List ℕ) : Type 0 where
+-- a kernel with the numbers of its constants, its context in rising order, the context's free variables and type variables, and what is
+-- known of formulas
+pub record IsInside (k : KernelState) (numbers : Constants) (ordered : List ℕ) (known : Known) : Type 0 where
   pub kernel : IsKernel k
   pub constants : AreConstants k.store numbers
   pub rises : Rises ordered
@@ -131,6 +133,7 @@ pub record IsInside (k : KernelState) (numbers : Constants) (ordered : List ℕ)
   pub variables : AreVariables k.store k.variables (context_of k)
   pub variables_rise : Rises k.variables
   pub type_variables : AreTypeVariables k.store.types k.type_variables (type_variables_in (context_of k))
+  pub knows : AllKnown k.store known
 
 -- ---- how a kernel goes on
 

@@ -1,7 +1,8 @@
 //! The kernel: each record follows from the facts under the context and its hypotheses.
-ghost use Rattle.std.specs.Prelude.{◌≡◌, ◌++◌, [], ◌∷◌, length, IfOk, OnOk, OnErr, IsTrue, false};
+ghost use Rattle.std.specs.Prelude.{◌≡◌, ◌++◌, [], ◌∷◌, length, IfOk, OnOk, OnErr, IsTrue, true, false};
+ghost use Rattle.hol_types.specs.TypeSubst.{HasSubst, subst_tree};
 ghost use Rattle.hol_terms.specs.TermStore.{HasTerm, Keeps, TermsApart, term_tree};
-ghost use Rattle.hol_terms.specs.Formula.{IsFormula};
+ghost use Rattle.hol_terms.specs.Formula.{IsFormula, NotFreeInAny, ChangesNone, without};
 ghost use Rattle.hol_terms.specs.Derivable.{Derivable};
 ghost use Rattle.hol_formulas.specs.Constants.{AreConstants};
 ghost use Rattle.hol_formulas.specs.Found.{AreVariables};
@@ -12,14 +13,16 @@ ghost use Rattle.lcf_kernel.specs.Hyps.{Rises, SameIds};
 ghost use Rattle.lcf_kernel.specs.Marks.{MayReset, cut, mark_of};
 
 use crate::hyps::{copied, in_order, outside};
+use crate::known::{
+    Known, changes_none, occurs, occurs_but, type_variables_in_list, variables_in_order,
+};
 use crate::mark::KernelMark;
 use crate::thm::{Made, Thm, ThmId};
 use hol_formulas::formula::Constants;
-use hol_formulas::type_variables::type_variables_of;
-use hol_formulas::variables::variables_of;
 use hol_terms::{Frozen, Mark, Node, Part, Store, TermFault, TermId, Terms};
 use hol_types::{List, NameId, Subst, TypeFault, TypeId, TypeInstances, TypeNode};
 use std::alloc::{AllocError, Global};
+use std::collections::HashMap;
 use std::marker::Model;
 
 /// Records of theorems over a store of terms. Each record's conclusion is derivable from the facts, with the context
@@ -35,6 +38,8 @@ pub struct Kernel<'b> {
     variables: List<TermId>,
     /// The ids of the types that are the context's type variables.
     type_variables: List<TypeId>,
+    /// The variables of formulas that were asked for them.
+    known: Known,
     thms: Vec<Thm>,
     alloc: Global,
 }
@@ -49,6 +54,7 @@ impl Drop for Kernel<'_> {
             ordered: _,
             variables: _,
             type_variables: _,
+            known: _,
             thms: _,
             alloc: _,
         } = self;
@@ -95,7 +101,7 @@ impl<'b> Model for Kernel<'b> {
 
     ghost view = { λ k. record { store = k.store.store; base = k.store.base; constants = k.constants; facts = k.facts; context = k.context; variables = k.variables; type_variables = k.type_variables; thms = k.thms.items } };
 
-    ghost invariant = { λ k. IsInside (record { store = k.store.store; base = k.store.base; constants = k.constants; facts = k.facts; context = k.context; variables = k.variables; type_variables = k.type_variables; thms = k.thms.items }) k.constants k.ordered };
+    ghost invariant = { λ k. IsInside (record { store = k.store.store; base = k.store.base; constants = k.constants; facts = k.facts; context = k.context; variables = k.variables; type_variables = k.type_variables; thms = k.thms.items }) k.constants k.ordered k.known };
 }
 
 impl<'b> Kernel<'b> {
@@ -121,6 +127,7 @@ impl<'b> Kernel<'b> {
         let ordered = in_order(alloc, context)?;
         let facts = copied(alloc, facts)?;
         let context = copied(alloc, context)?;
+        let known = HashMap::new(alloc);
         let thms = Vec::new(alloc);
         Ok(Kernel {
             store,
@@ -130,6 +137,7 @@ impl<'b> Kernel<'b> {
             ordered,
             variables,
             type_variables,
+            known,
             thms,
             alloc,
         })
@@ -147,12 +155,14 @@ impl<'b> Kernel<'b> {
     }
 
     /// Takes away all records, names, declared constructors, types and terms that came after the mark, which is one that
-    /// this kernel gave and went on from. The kernel is as it was at the mark. It takes a step for each item that goes.
+    /// this kernel gave and went on from. The kernel is as it was at the mark. It takes a step for each item that goes,
+    /// what is known of formulas among them.
     pub fn reset(&mut self, m: KernelMark)
         requires { MayReset m self.old }
         ensures cut { self.new ≡ cut m self.old }
         ensures back { (was : KernelState) → MayReset m was → cut m was ≡ was → KeepsRecords was self.old → self.new ≡ was }
     {
+        self.known = HashMap::new(self.alloc);
         self.store.reset(m.store);
         self.thms.truncate(m.thms);
     }
@@ -308,6 +318,70 @@ impl<'b> Kernel<'b> {
         self.type_variables.as_slice()
     }
 
+    /// Whether a free variable occurs in a record's own hypotheses. Only a formula that isn't known yet is walked.
+    pub(crate) fn in_own(&mut self, a: ThmId, v: TermId) -> Result<bool, AllocError>
+        requires thm { HasThm self.old a }
+        requires variable { HasTerm self.old.store v }
+        ensures absent { IfOk result (λ r. r ≡ false → NotFreeInAny (term_tree self.old.store v) (hyps_of self.old a)) }
+        ensures present { IfOk result (λ r. r ≡ true → NotFreeInAny (term_tree self.old.store v) (hyps_of self.old a) → ⊥) }
+        ensures same { self.new ≡ self.old }
+    {
+        let own = self.thms[a.index()].hyps.as_slice();
+        let r = occurs(&self.store, &mut self.known, v, own)?;
+        Ok(r)
+    }
+
+    /// The same, for the hypotheses other than a given term.
+    pub(crate) fn in_own_but(
+        &mut self,
+        a: ThmId,
+        v: TermId,
+        but: TermId,
+    ) -> Result<bool, AllocError>
+        requires thm { HasThm self.old a }
+        requires variable { HasTerm self.old.store v }
+        requires but { HasTerm self.old.store but }
+        ensures absent { IfOk result (λ r. r ≡ false → NotFreeInAny (term_tree self.old.store v) (without (term_tree self.old.store but) (hyps_of self.old a))) }
+        ensures present { IfOk result (λ r. r ≡ true → NotFreeInAny (term_tree self.old.store v) (without (term_tree self.old.store but) (hyps_of self.old a)) → ⊥) }
+        ensures same { self.new ≡ self.old }
+    {
+        let own = self.thms[a.index()].hyps.as_slice();
+        let r = occurs_but(&self.store, &mut self.known, v, own, but)?;
+        Ok(r)
+    }
+
+    /// The same, for the formulas of the context other than a given term.
+    pub(crate) fn in_others(&mut self, v: TermId, but: TermId) -> Result<bool, AllocError>
+        requires variable { HasTerm self.old.store v }
+        requires but { HasTerm self.old.store but }
+        ensures absent { IfOk result (λ r. r ≡ false → NotFreeInAny (term_tree self.old.store v) (without (term_tree self.old.store but) (context_of self.old))) }
+        ensures present { IfOk result (λ r. r ≡ true → NotFreeInAny (term_tree self.old.store v) (without (term_tree self.old.store but) (context_of self.old)) → ⊥) }
+        ensures same { self.new ≡ self.old }
+    {
+        let r = occurs_but(
+            &self.store,
+            &mut self.known,
+            v,
+            self.context.as_slice(),
+            but,
+        )?;
+        Ok(r)
+    }
+
+    /// Whether types for type variables change no type variable of a record's own hypotheses. Only a formula that isn't
+    /// known yet is walked.
+    pub(crate) fn keeps_own(&mut self, a: ThmId, s: &Subst) -> Result<bool, AllocError>
+        requires thm { HasThm self.old a }
+        requires subst { HasSubst self.old.store.types s.now }
+        ensures is { IfOk result (λ r. r ≡ true → ChangesNone (subst_tree self.old.store.types s.now) (hyps_of self.old a)) }
+        ensures isnt { IfOk result (λ r. r ≡ false → ChangesNone (subst_tree self.old.store.types s.now) (hyps_of self.old a) → ⊥) }
+        ensures keeps { KeepsAll self.old self.new }
+    {
+        let own = self.thms[a.index()].hyps.as_slice();
+        let r = changes_none(&mut self.store, &mut self.known, own, s)?;
+        Ok(r)
+    }
+
     /// Makes each record of a kernel.
     fn add(&mut self, thm: Thm) -> Result<ThmId, AllocError>
         requires { IsThm self.old.store self.old.facts self.old.context thm }
@@ -342,26 +416,6 @@ impl<'b> Kernel<'b> {
         })?;
         Ok(r)
     }
-}
-
-/// The free variables of formulas in rising order, each once.
-fn variables_in_order(store: &Store<'_>, context: &[TermId]) -> Result<List<TermId>, AllocError>
-    requires { HasFormulas store.now.store context.now }
-    ensures rises { IfOk result Rises }
-    ensures are { IfOk result (λ c. AreVariables store.now.store c (trees store.now.store context.now)) }
-{
-    let found = variables_of(store, context)?;
-    let c = in_order(store.allocator(), found.as_slice())?;
-    Ok(c)
-}
-
-/// The type variables of formulas.
-fn type_variables_in_list(store: &Store<'_>, context: &[TermId]) -> Result<List<TypeId>, AllocError>
-    requires { HasFormulas store.now.store context.now }
-    ensures { IfOk result (λ c. AreTypeVariables store.now.store.types c (type_variables_in (trees store.now.store context.now))) }
-{
-    let found = type_variables_of(store, context)?;
-    Ok(List::new(found))
 }
 
 impl<'b> Terms for Kernel<'b> {

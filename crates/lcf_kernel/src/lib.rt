@@ -9,6 +9,7 @@
 mod crosses;
 mod hyps;
 mod kernel;
+mod known;
 mod mark;
 mod premises;
 mod rules;

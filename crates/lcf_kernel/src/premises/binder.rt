@@ -19,7 +19,6 @@ use hol_formulas::binder::{
     Binder, all_part, ex_parts, is_variable, lambda_parts, make_chosen, make_general,
 };
 use hol_formulas::formula::{Sides, apply_fitting};
-use hol_formulas::occurs::{occurs, occurs_but};
 use hol_terms::{Node, TermId, Terms};
 use std::alloc::AllocError;
 
@@ -160,20 +159,21 @@ impl<'b> Kernel<'b> {
     }
 
     /// Whether a term is a free variable that no hypothesis of a record speaks of, and nothing in the context.
-    pub(crate) fn is_general(&self, a: ThmId, v: TermId) -> Result<bool, AllocError>
-        requires thm { HasThm self.now a }
-        requires there { HasTerm self.now.store v }
-        ensures is { IfOk result (λ r. r ≡ true → IsGeneral (all_hyps_of self.now a) (term_tree self.now.store v)) }
-        ensures isnt { IfOk result (λ r. r ≡ false → IsGeneral (all_hyps_of self.now a) (term_tree self.now.store v) → ⊥) }
+    pub(crate) fn is_general(&mut self, a: ThmId, v: TermId) -> Result<bool, AllocError>
+        requires thm { HasThm self.old a }
+        requires there { HasTerm self.old.store v }
+        ensures is { IfOk result (λ r. r ≡ true → IsGeneral (all_hyps_of self.old a) (term_tree self.old.store v)) }
+        ensures isnt { IfOk result (λ r. r ≡ false → IsGeneral (all_hyps_of self.old a) (term_tree self.old.store v) → ⊥) }
+        ensures same { self.new ≡ self.old }
     {
         if !is_variable(self, v) {
             return Ok(false);
         }
-        let in_hyps = occurs(self, v, self.hyps(a))?;
-        if in_hyps {
+        if self.in_context(v) {
             return Ok(false);
         }
-        if self.in_context(v) {
+        let in_hyps = self.in_own(a, v)?;
+        if in_hyps {
             return Ok(false);
         }
         Ok(true)
@@ -196,33 +196,33 @@ impl<'b> Kernel<'b> {
         self.body_of_some(said, v)
     }
 
-    /// Whether a free variable occurs in a formula of the context other than a given one. The formulas are walked only where
-    /// it occurs in the context.
-    fn in_context_but(&self, v: TermId, but: TermId) -> Result<bool, AllocError>
-        requires variable { HasTerm self.now.store v }
-        requires but { HasTerm self.now.store but }
-        ensures absent { IfOk result (λ r. r ≡ false → NotFreeInAny (term_tree self.now.store v) (without (term_tree self.now.store but) (context_of self.now))) }
-        ensures present { IfOk result (λ r. r ≡ true → NotFreeInAny (term_tree self.now.store v) (without (term_tree self.now.store but) (context_of self.now)) → ⊥) }
+    /// Whether a free variable occurs in a formula of the context other than a given one. The formulas are asked one by one
+    /// only where it occurs in the context.
+    fn in_context_but(&mut self, v: TermId, but: TermId) -> Result<bool, AllocError>
+        requires variable { HasTerm self.old.store v }
+        requires but { HasTerm self.old.store but }
+        ensures absent { IfOk result (λ r. r ≡ false → NotFreeInAny (term_tree self.old.store v) (without (term_tree self.old.store but) (context_of self.old))) }
+        ensures present { IfOk result (λ r. r ≡ true → NotFreeInAny (term_tree self.old.store v) (without (term_tree self.old.store but) (context_of self.old)) → ⊥) }
+        ensures same { self.new ≡ self.old }
     {
-        self.know_apart();
         if !self.in_context(v) {
             return Ok(false);
         }
-        let r = occurs_but(self, v, self.context(), but)?;
+        let r = self.in_others(v, but)?;
         Ok(r)
     }
 
     /// Whether a free variable occurs in a hypothesis of a record other than a given formula, or in such a formula of
     /// the context.
-    fn in_hyps_but(&self, b: ThmId, v: TermId, but: TermId) -> Result<bool, AllocError>
-        requires thm { HasThm self.now b }
-        requires variable { HasTerm self.now.store v }
-        requires but { HasTerm self.now.store but }
-        ensures absent { IfOk result (λ r. r ≡ false → NotFreeInAny (term_tree self.now.store v) (without (term_tree self.now.store but) (all_hyps_of self.now b))) }
-        ensures present { IfOk result (λ r. r ≡ true → NotFreeInAny (term_tree self.now.store v) (without (term_tree self.now.store but) (all_hyps_of self.now b)) → ⊥) }
+    fn in_hyps_but(&mut self, b: ThmId, v: TermId, but: TermId) -> Result<bool, AllocError>
+        requires thm { HasThm self.old b }
+        requires variable { HasTerm self.old.store v }
+        requires but { HasTerm self.old.store but }
+        ensures absent { IfOk result (λ r. r ≡ false → NotFreeInAny (term_tree self.old.store v) (without (term_tree self.old.store but) (all_hyps_of self.old b))) }
+        ensures present { IfOk result (λ r. r ≡ true → NotFreeInAny (term_tree self.old.store v) (without (term_tree self.old.store but) (all_hyps_of self.old b)) → ⊥) }
+        ensures same { self.new ≡ self.old }
     {
-        self.know_apart();
-        let in_own = occurs_but(self, v, self.hyps(b), but)?;
+        let in_own = self.in_own_but(b, v, but)?;
         if in_own {
             return Ok(true);
         }
@@ -233,20 +233,21 @@ impl<'b> Kernel<'b> {
     /// Whether neither a lambda's body speaks of a free variable, nor what a record says, but for the hypothesis that is
     /// the body with the variable.
     pub(crate) fn is_arbitrary(
-        &self,
+        &mut self,
         b: ThmId,
         v: TermId,
         body: TermId,
         opened: TermId,
     ) -> Result<bool, AllocError>
-        requires thm { HasThm self.now b }
-        requires there { HasTerm self.now.store v }
-        requires variable { IsFreeVariable (term_tree self.now.store v) }
-        requires body { HasTerm self.now.store body }
-        requires opened { HasTerm self.now.store opened }
-        requires is { term_tree self.now.store opened ≡ subst_bound (term_tree self.now.store body) 0 (term_tree self.now.store v) }
-        ensures is { IfOk result (λ r. r ≡ true → IsArbitrary (term_tree self.now.store body) (concl_of self.now b) (all_hyps_of self.now b) (term_tree self.now.store v)) }
-        ensures isnt { IfOk result (λ r. r ≡ false → IsArbitrary (term_tree self.now.store body) (concl_of self.now b) (all_hyps_of self.now b) (term_tree self.now.store v) → ⊥) }
+        requires thm { HasThm self.old b }
+        requires there { HasTerm self.old.store v }
+        requires variable { IsFreeVariable (term_tree self.old.store v) }
+        requires body { HasTerm self.old.store body }
+        requires opened { HasTerm self.old.store opened }
+        requires is { term_tree self.old.store opened ≡ subst_bound (term_tree self.old.store body) 0 (term_tree self.old.store v) }
+        ensures is { IfOk result (λ r. r ≡ true → IsArbitrary (term_tree self.old.store body) (concl_of self.old b) (all_hyps_of self.old b) (term_tree self.old.store v)) }
+        ensures isnt { IfOk result (λ r. r ≡ false → IsArbitrary (term_tree self.old.store body) (concl_of self.old b) (all_hyps_of self.old b) (term_tree self.old.store v) → ⊥) }
+        ensures same { self.new ≡ self.old }
     {
         let claim = self.concl(b);
         let absent = self.is_in_neither(v, body, claim)?;
@@ -315,14 +316,15 @@ impl<'b> Kernel<'b> {
     }
 
     /// The functions that a conclusion says to agree on a free variable of which neither they nor a hypothesis speaks.
-    pub(crate) fn agreeing(&self, a: ThmId, v: TermId) -> Result<Option<Sides>, AllocError>
-        requires thm { HasThm self.now a }
-        requires there { HasTerm self.now.store v }
-        ensures none { IfOk result (λ found. IfNone found ((f g : Term) → Agree (all_hyps_of self.now a) (concl_of self.now a) (term_tree self.now.store v) f g → ⊥)) }
-        ensures left { IfOk result (λ found. IfSome found (λ p. HasTerm self.now.store p.left)) }
-        ensures right { IfOk result (λ found. IfSome found (λ p. HasTerm self.now.store p.right)) }
-        ensures some { IfOk result (λ found. IfSome found (λ p. Agree (all_hyps_of self.now a) (concl_of self.now a) (term_tree self.now.store v) (term_tree self.now.store p.left) (term_tree self.now.store p.right))) }
-        ensures lawful { IsKernel self.now }
+    pub(crate) fn agreeing(&mut self, a: ThmId, v: TermId) -> Result<Option<Sides>, AllocError>
+        requires thm { HasThm self.old a }
+        requires there { HasTerm self.old.store v }
+        ensures none { IfOk result (λ found. IfNone found ((f g : Term) → Agree (all_hyps_of self.old a) (concl_of self.old a) (term_tree self.old.store v) f g → ⊥)) }
+        ensures left { IfOk result (λ found. IfSome found (λ p. HasTerm self.old.store p.left)) }
+        ensures right { IfOk result (λ found. IfSome found (λ p. HasTerm self.old.store p.right)) }
+        ensures some { IfOk result (λ found. IfSome found (λ p. Agree (all_hyps_of self.old a) (concl_of self.old a) (term_tree self.old.store v) (term_tree self.old.store p.left) (term_tree self.old.store p.right))) }
+        ensures lawful { IsKernel self.old }
+        ensures same { self.new ≡ self.old }
     {
         let Some(sides) = self.equated_by(a) else {
             return Ok(None);

@@ -8,7 +8,7 @@ ghost use Rattle.lcf_kernel.specs.KernelState.{HasThm, concl_of, hyps_of, contex
 
 use crate::kernel::Kernel;
 use crate::thm::ThmId;
-use hol_formulas::unchanged::{changes_none, leaves_each};
+use hol_formulas::unchanged::leaves_each;
 use hol_terms::TermId;
 use hol_types::Subst;
 use std::alloc::AllocError;
@@ -24,19 +24,6 @@ impl<'b> Kernel<'b> {
     {
         let types = Vec::from_slice(self.alloc(), self.type_variables())?;
         let r = leaves_each(self, types.as_slice(), s)?;
-        Ok(r)
-    }
-
-    /// Whether types for type variables change no type variable of a record's own hypotheses.
-    fn keeps_own(&mut self, a: ThmId, s: &Subst) -> Result<bool, AllocError>
-        requires thm { HasThm self.old a }
-        requires subst { HasSubst self.old.store.types s.now }
-        ensures is { IfOk result (λ r. r ≡ true → ChangesNone (subst_tree self.old.store.types s.now) (hyps_of self.old a)) }
-        ensures isnt { IfOk result (λ r. r ≡ false → ChangesNone (subst_tree self.old.store.types s.now) (hyps_of self.old a) → ⊥) }
-        ensures keeps { KeepsAll self.old self.new }
-    {
-        let own = Vec::from_slice(self.alloc(), self.hyps(a))?;
-        let r = changes_none(self, own.as_slice(), s)?;
         Ok(r)
     }
 

@@ -1,4 +1,4 @@
-use Rattle.std.proofs.Common.{◌∙◌, sym, true, false, true≢false}
+use Rattle.std.proofs.Common.{◌∙◌, sym, true≢false}
 use Rattle.hol_formulas.proofs.FoundLemmas.{absent_outside, present_among}
 use Rattle.lcf_kernel.specs.KernelState.{context_of}
 use Rattle.lcf_kernel.proofs.IdLemmas.{stands-In, stands-from_In}

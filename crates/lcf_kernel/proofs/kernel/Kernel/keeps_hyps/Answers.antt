@@ -1,4 +1,4 @@
-use Rattle.std.proofs.Common.{◌≡◌, subst, true, false, arith, tests}
+use Rattle.std.proofs.Common.{◌≡◌, true, false, arith, tests}
 use Rattle.hol_types.specs.TypeSubst.{subst_tree}
 use Rattle.hol_terms.proofs.KeepsLemmas.{subst_kept, subst_same}
 use Rattle.hol_formulas.proofs.UnchangedTypes.{changes_none_both, changes_none_left, changes_none_right}

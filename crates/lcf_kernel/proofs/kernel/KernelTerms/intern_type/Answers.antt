@@ -2,4 +2,4 @@ use Rattle.lcf_kernel.proofs.KeepLemmas.{inside_keeps}
 use Rattle.lcf_kernel.proofs.kernel.KernelTerms.intern_type.Goals as goal
 
 pub invariant_of-self : goal.invariant_of-self
-invariant_of-self c = inside_keeps _ _ _ c.intern_type-made.ensures.keeps _ _ c.self.invariant
+invariant_of-self c = inside_keeps _ _ _ c.intern_type-made.ensures.keeps _ _ _ c.self.invariant
