@@ -1,11 +1,13 @@
 -- Formulas made of formulas, and the reading of lists one part after the other.
-use Rattle.std.proofs.Common.{◌≡◌, ℕ, List, [], ◌∷◌, ◌++◌, Option, Some, None, true≢false, false, refl, sym, ap, ◌∙◌, append_assoc}
-use Rattle.std.specs.Prelude.{option_map}
+use Rattle.std.proofs.Common.{◌≡◌, ℕ, List, [], ◌∷◌, ◌++◌, Option, Some, None, Bool, true, true≢false, false, refl, sym, ap, ◌∙◌, append_assoc}
+use Rattle.std.specs.Prelude.{option_map, if◌then◌else◌, bytes_eq, codes}
 use Rattle.std.proofs.lemmas.List.{append-nil}
 use Rattle.std.proofs.lemmas.Option.{none-some, same_Some}
 use Rattle.hol_terms.specs.Term.{Term}
 use Rattle.hol_terms.specs.Constants.{negation, implication}
 use Rattle.sexp.specs.Tree.{Tree, Trees, AtomTree, QuotedTree, ListTree, no_trees, more_trees}
+use Rattle.first_form.specs.declared.formula.Connective.{Connective}
+use Rattle.first_form.specs.declared.formula.Connective.TheVariants.{Negation, Implication}
 use Rattle.first_form.specs.declared.failure.FormFailure.{FormFailure}
 use Rattle.first_form.specs.declared.failure.FormFailure.TheVariants as failures
 use Rattle.first_form.specs.declared.lexicon.Lexicon.{Lexicon}
@@ -16,7 +18,8 @@ use Rattle.goal_text.specs.Sentences.{HaveSentences, IsSentence}
 use Rattle.first_form.specs.Lexicon.{IsLexicon, atom_number, names_of}
 use Rattle.first_form.proofs.LexiconLemmas.{atom_read, terms_front, terms_kept}
 use Rattle.first_form.specs.Trees.{is_atom, parts_of, text_of}
-use Rattle.first_form.specs.Formulas.{formula_of, formulas_of, built, implied, implication_of}
+use Rattle.first_form.specs.Connectives.{connective_of, made_by}
+use Rattle.first_form.specs.Formulas.{formula_of, formulas_of, built, implied, negation_of, implication_of}
 
 pub negation-formula : (a : Term) → IsSentence a → IsSentence (negation a)
 negation-formula a is = record {
@@ -57,6 +60,17 @@ pub formula-atom : (s : TermStore) (lexicon : Lexicon) (tree : Tree) (at : ℕ) 
 unfolding formula_of
 formula-atom s lexicon tree at text is e = rw e (sym (atom_read s lexicon text is))
 
+-- what a word builds, its connective makes
+built-made : (word : List ℕ) (parts : List Term) → built word parts ≡ (connective_of word >>= λ connective. made_by connective parts)
+unfolding built
+built-made word parts = by (bytes_eq word (codes "not")) (bytes_eq word (codes "=>"))
+  where
+    by : (not implies : Bool) → (if not then negation_of parts else if implies then implication_of parts else None)
+        ≡ ((if not then Some Negation else if implies then Some Implication else None) >>= λ connective. made_by connective parts)
+    by true implies = refl
+    by false true = refl
+    by false false = refl
+
 -- a list
 module _ (names : List (List ℕ)) (tree head : Tree) (trees rest : Trees) (at : ℕ) (is : tree ≡ ListTree at trees) where
   pub formula-list : trees ≡ more_trees head rest → formula_of names tree ≡ (formulas_of names rest >>= λ parts. built (text_of head) parts)
@@ -71,8 +85,16 @@ module _ (names : List (List ℕ)) (tree head : Tree) (trees rest : Trees) (at :
   formula-fails failures.Memory e h = tt
   formula-fails failures.Refused e h = formula-list e ∙ rw h refl
 
-  pub formula-built : (word : List ℕ) (parts : List Term) → trees ≡ more_trees head rest → word ≡ text_of head → formulas_of names rest ≡ Some parts → formula_of names tree ≡ built word parts
-  formula-built word parts e w h = formula-list e ∙ rw (h, w) refl
+  -- whatever the parts are read as
+  pub formula-unconnected : trees ≡ more_trees head rest → connective_of (text_of head) ≡ None → formula_of names tree ≡ None
+  formula-unconnected e h = formula-list e ∙ by (formulas_of names rest)
+    where
+      by : (read : Option (List Term)) → (read >>= λ parts. built (text_of head) parts) ≡ None
+      by None = refl
+      by (Some parts) = built-made (text_of head) parts ∙ rw h refl
+
+  pub formula-made : (connective : Connective) (parts : List Term) → trees ≡ more_trees head rest → connective_of (text_of head) ≡ Some connective → formulas_of names rest ≡ Some parts → formula_of names tree ≡ made_by connective parts
+  formula-made connective parts e c h = formula-list e ∙ rw h (built-made (text_of head) parts ∙ rw c refl)
 
 -- a tree that is neither an atom nor a list
 pub formula-other : (names : List (List ℕ)) (tree : Tree) → is_atom tree ≡ false → parts_of tree ≡ None → formula_of names tree ≡ None

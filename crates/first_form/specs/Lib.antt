@@ -2,6 +2,7 @@ pub mod Read
 pub mod Trees
 pub mod Forest
 pub mod Formulas
+pub mod Connectives
 pub mod Lexicon
 pub mod Source
 pub mod ProofForm

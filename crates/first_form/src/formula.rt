@@ -1,9 +1,11 @@
 //! Formulas of the first proof form.
-ghost use Rattle.std.specs.Prelude.{IfOk, Some};
+ghost use Rattle.std.specs.Prelude.{◌≡◌, IfOk, Some};
 ghost use Rattle.hol_terms.specs.Constants.{negation, implication};
 ghost use Rattle.hol_terms.specs.TermStore.{Keeps, term_tree};
 ghost use Rattle.sexp.specs.Forest.{tree_at, trees_at, HasTree, IsRun};
-ghost use Rattle.first_form.specs.Formulas.{built, formula_of, formulas_of, implication_of, negation_of};
+ghost use Rattle.first_form.specs.Connectives as connectives;
+ghost use Rattle.first_form.specs.Connectives.{made_by};
+ghost use Rattle.first_form.specs.Formulas.{formula_of, formulas_of, implication_of, negation_of};
 ghost use Rattle.goal_text.specs.Scope.{terms_at};
 ghost use Rattle.goal_text.specs.Sentences.{HasSentence, HaveSentences};
 ghost use Rattle.first_form.specs.Lexicon.{IsLexicon, names_of};
@@ -15,6 +17,26 @@ use crate::made::typed;
 use crate::tree::{atom_at, parts_at, text_at};
 use hol_terms::{Base, Node, TermId, Terms};
 use sexp::Forest;
+
+/// What makes a formula of formulas.
+#[derive(Clone, Copy, Debug)]
+enum Connective {
+    Negation,
+    Implication,
+}
+
+/// The connective of a word.
+fn connective_of(word: &[u8]) -> Option<Connective>
+    ensures { result ≡ connectives.connective_of word.now }
+{
+    if word == b"not".as_slice() {
+        Some(Connective::Negation)
+    } else if word == b"=>".as_slice() {
+        Some(Connective::Implication)
+    } else {
+        None
+    }
+}
 
 /// The negation of a formula.
 pub fn not(base: &mut Base, lexicon: &Lexicon, a: TermId) -> Result<TermId, FormFailure>
@@ -82,30 +104,27 @@ fn implied(base: &mut Base, lexicon: &Lexicon, parts: Vec<TermId>) -> Result<Ter
     Ok(t)
 }
 
-/// What a word's list is read as, its parts being these formulas.
-#[tactic(auto, unfolding(crate::specs::Formulas::built))]
+/// What a connective makes of the parts.
 fn form(
     base: &mut Base,
     lexicon: &Lexicon,
-    word: &[u8],
+    connective: Connective,
     parts: Vec<TermId>,
 ) -> Result<TermId, FormFailure>
     requires lexicon { IsLexicon base.old lexicon.now }
     requires parts { HaveSentences base.old parts.items }
-    ensures read { Gives (term_tree base.new) result (built word.now (terms_at base.old parts.items)) }
+    ensures read { Gives (term_tree base.new) result (made_by connective (terms_at base.old parts.items)) }
     ensures formula { IfOk result (HasSentence base.new) }
     ensures keeps { Keeps base.old base.new }
 {
-    if word == b"not".as_slice() {
-        negated(base, lexicon, parts)
-    } else if word == b"=>".as_slice() {
-        implied(base, lexicon, parts)
-    } else {
-        Err(FormFailure::Refused)
+    match connective {
+        Connective::Negation => negated(base, lexicon, parts),
+        Connective::Implication => implied(base, lexicon, parts),
     }
 }
 
-/// The formula that a tree is read as, with the lexicon's constants as it writes them. Refused where it is none.
+/// The formula that a tree is read as, with the lexicon's constants as it writes them. Refused where it is none. A list
+/// that begins with no connective is refused before its parts are read: lists that begin with `let` may nest to any depth.
 #[cycle(formula)]
 #[tactic(auto, unfolding(crate::specs::Formulas::formula_of), using(hol_terms::proofs::KeepsLemmas::keeps_trans, crate::proofs::LexiconLemmas::lexicon_kept))]
 pub fn formula_at(
@@ -132,8 +151,11 @@ pub fn formula_at(
     let Some(second) = forest.next(first, end) else {
         return Err(FormFailure::Refused);
     };
+    let Some(connective) = connective_of(text_at(forest, first)) else {
+        return Err(FormFailure::Refused);
+    };
     let parts = formulas_at(base, lexicon, forest, second, end)?;
-    let t = form(base, lexicon, text_at(forest, first), parts)?;
+    let t = form(base, lexicon, connective, parts)?;
     Ok(t)
 }
 
