@@ -1,8 +1,10 @@
-//! Tokens and trees: whole texts with their trees or faults, and a text cut at each pair of places. Each call that may want
-//! memory is made a second time where it does, so the tests hold with any one allocation failing.
-ghost use Rattle.std.specs.Prelude.{◌<◌, ◌^◌};
+//! Tokens and trees: whole texts with their trees or faults, a text cut at each pair of places, and what comes after memory
+//! ran out once. Each call that may want memory is made a second time where it does, so the tests hold with any one
+//! allocation failing.
+ghost use Rattle.std.specs.Prelude.{◌≡◌, ◌<◌, ◌^◌, false};
+ghost use Rattle.sexp.specs.Reading.{is_whole};
 
-use sexp::{RecKind, SexpFault, Token, TokenKind, read_forest, read_tokens};
+use sexp::{Next, Reader, RecKind, SexpFault, Token, TokenKind, read_forest, read_tokens};
 use std::alloc::{AllocError, Global};
 
 /// How many trees a text has, those within others counted.
@@ -179,6 +181,49 @@ fn cuts(rt: HostRuntime) -> Result<(), SexpFault> {
             }
         }
     }
+    Ok(())
+}
+
+/// Takes a piece, at the second call where memory ran out at the first.
+fn feed(reader: &mut Reader, piece: &[u8]) -> Result<(), AllocError>
+    requires { is_whole reader.old ≡ false }
+    ensures { is_whole reader.new ≡ false }
+{
+    match reader.feed(piece) {
+        Ok(()) => Ok(()),
+        Err(_) => reader.feed(piece),
+    }
+}
+
+/// The next answer, and after want of memory the one that comes then.
+fn answer(reader: &mut Reader) -> Result<Next, SexpFault>
+    ensures { is_whole reader.new ≡ is_whole reader.old }
+{
+    match reader.next() {
+        Err(SexpFault::Memory) => reader.next(),
+        answer => answer,
+    }
+}
+
+fn token(start: u64, end: u64, kind: TokenKind) -> Result<Next, SexpFault> {
+    Ok(Next::Token(Token { start, end, kind }))
+}
+
+/// Want of memory takes none of a reader's answers away, and a fault that was answered is answered again.
+#[test]
+fn after_want_of_memory(rt: HostRuntime) -> Result<(), AllocError> {
+    let mut reader = Reader::new(rt.alloc(), 100);
+    feed(&mut reader, b"((a")?;
+    assert_eq!(rt; answer(&mut reader), token(0, 1, TokenKind::Open));
+    assert_eq!(rt; answer(&mut reader), token(1, 2, TokenKind::Open));
+    assert_eq!(rt; answer(&mut reader), Ok(Next::More));
+    feed(&mut reader, b"))\"")?;
+    assert_eq!(rt; answer(&mut reader), token(2, 3, TokenKind::Atom));
+    assert_eq!(rt; answer(&mut reader), token(3, 4, TokenKind::Close));
+    assert_eq!(rt; answer(&mut reader), token(4, 5, TokenKind::Close));
+    assert_eq!(rt; answer(&mut reader), Err(SexpFault::BadByte(5)));
+    reader.finish();
+    assert_eq!(rt; answer(&mut reader), Err(SexpFault::BadByte(5)));
     Ok(())
 }
 
