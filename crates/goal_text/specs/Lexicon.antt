@@ -76,7 +76,8 @@ value_of digits = value_behind 0 digits
 abbrev pub is_too_large : List ℕ → Bool
 is_too_large text = is_number text && not (nat_lt (value_of text) (2 ^ 127))
 
--- a tree where the grammar allows none of its form; a number that is too large is Number wherever it stands
+-- a tree where the grammar allows none of its form; a number that is too large is Number wherever it stands, but as the
+-- head of an item, which is Syntax at the item
 abbrev pub misfit : Tree → GoalKind
 misfit (AtomTree at text) = if is_too_large text then Number else Syntax
 misfit (QuotedTree at text) = Syntax

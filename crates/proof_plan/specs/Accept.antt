@@ -1,7 +1,7 @@
 -- Which nodes a proof rule accepts: each rule has its row, on the claim and the premises' claims.
 -- A node of more than 100,000 distinct parts is refused before its row is looked at. The rows of `asserted`, `goal`,
--- `mp` by an implication, and `unit-resolution` on claims without `or` are read. Until its own step each other rule's
--- row reads: Shape.
+-- `mp` by an implication, and `unit-resolution` on claims without `or` are there. The row of each other rule isn't there
+-- yet and reads: Shape.
 use Rattle.std.specs.Prelude.{ℕ, Bool, true, false, ◌||◌, nat_lt, if◌then◌else◌, List, [], ◌∷◌, length}
 use Rattle.std.specs.List.{list_any}
 use Rattle.hol_terms.specs.Term.{Term}
@@ -35,8 +35,8 @@ is_modus_ponens (a ∷ []) c = false
 is_modus_ponens (a ∷ b ∷ []) c = term_eq b (implication a c)
 is_modus_ponens (a ∷ b ∷ d ∷ ps) c = false
 
--- the first premise is a complement of a further one, or the claim, or false; that it may be a disjunction
--- of such formulas or of pieces of the claim is read with `or`
+-- the first premise is a complement of a further one, or the claim, or false; a step that needs that it is a disjunction
+-- of such formulas or of pieces of the claim isn't accepted yet, as the proof form has no `or`
 abbrev pub is_resolved : List Term → Term → Bool
 is_resolved [] c = false
 is_resolved (a ∷ ps) c = list_any (are_complements a) ps || term_eq a c || term_eq a false_tm

@@ -177,7 +177,7 @@ fn problem_line<F: Files>(
     }
 }
 
-/// The bytes of a file, or so many of one that is too long for both forms that it is too long itself.
+/// The bytes of a file, or its first 4,194,305 where it has more, which each form refuses as too long.
 fn loaded<F: Files>(alloc: Global, name: &str, files: &mut F) -> Result<Bytes, NoLine>
     ensures goal { IfOk result (λ text. (all : List ℕ) → F.contents files.old name.now ≡ Some all → goal_read text ≡ goal_read all) }
     ensures proof { IfOk result (λ text. (all : List ℕ) (source : Source) → F.contents files.old name.now ≡ Some all → proof_form source text ≡ proof_form source all) }
